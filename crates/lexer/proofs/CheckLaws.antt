@@ -1,0 +1,43 @@
+-- What the whole-text check finds. Assumes nothing.
+use mathlib.Core.Path.{_≡_, refl, sym, ap, _∙_}
+use mathlib.Core.List.{List}
+use mathlib.Core.Option.{Option, some, none}
+use Prim.Native.Nat.{ℕ, _<_, _≤_}
+use borrow.Author.Tests.{lt-ltb, le-ltb}
+use native.Mathlib.Omega.{arith}
+use lib.ListN.{length}
+use Rattle.lexer.specs.declared.Found.{Found}
+use Rattle.lexer.specs.declared.Found.the-variants.{At, Nowhere}
+use Rattle.lexer.specs.declared.Checked.the-variants as C
+use Rattle.lexer.specs.Found.{found}
+use Rattle.lexer.specs.Utf8.{illFormed}
+use Rattle.lexer.specs.Cuts.{cuts, unrecognized}
+use Rattle.lexer.specs.Check.{limit, verdict, checked}
+
+found-at : (o : Option ℕ) (p : ℕ) → found o ≡ At p → o ≡ some p
+unfolding found
+found-at (some q) p e = cc
+found-at none p e = cc
+
+found-none : (o : Option ℕ) → found o ≡ Nowhere → o ≡ none
+unfolding found
+found-none (some q) e = cc
+found-none none e = refl
+
+module _ (t : List ℕ) where
+  pub too-long : 65536 < length t → checked t ≡ C.TooLong
+  unfolding checked limit
+  too-long h = rw (lt-ltb 65536 (length t) h)
+
+  module _ (h : length t ≤ 65536) where
+    pub ill : (p : ℕ) → found (illFormed t) ≡ At p → checked t ≡ C.IllFormed p
+    unfolding checked limit verdict
+    ill p e = rw (le-ltb 65536 (length t) h, found-at _ p e)
+
+    pub unknown : (p : ℕ) → found (illFormed t) ≡ Nowhere → found (unrecognized (cuts t) 0) ≡ At p → checked t ≡ C.Unrecognized p
+    unfolding checked limit verdict
+    unknown p e f = rw (le-ltb 65536 (length t) h, found-none _ e, found-at _ p f)
+
+    pub fine : found (illFormed t) ≡ Nowhere → found (unrecognized (cuts t) 0) ≡ Nowhere → checked t ≡ C.Fine
+    unfolding checked limit verdict
+    fine e f = rw (le-ltb 65536 (length t) h, found-none _ e, found-none _ f)

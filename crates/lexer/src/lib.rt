@@ -1,0 +1,111 @@
+// The lexer: from any byte string to its tokens, proved.
+pub mod location;
+pub mod table;
+mod words;
+pub mod utf8;
+pub mod scan;
+ghost use mathlib.Core.Path.{_≡_};
+ghost use Prim.Native.Nat.{_≤_};
+ghost use lib.ListN.{length};
+ghost use Rattle.token.specs.Tables.{classes, trie as nodes};
+ghost use Rattle.lexer.specs.Found.{found};
+ghost use Rattle.lexer.specs.Cuts.{cuts, unrecognized};
+ghost use Rattle.lexer.specs.Location.{Placed};
+ghost use Rattle.lexer.specs.Tokens.{skipped, next};
+ghost use Rattle.lexer.specs.Check.{checked};
+use token::Token;
+use token::Scan;
+use location::Lexer;
+use location::Next;
+use location::ParserToken;
+
+// The longest text that is read.
+const LIMIT: usize = 65536;
+
+// What the check of a whole text finds.
+pub enum Checked {
+    Fine,
+    // over 65,536 bytes
+    TooLong,
+    // no UTF-8 from this offset on
+    IllFormed(usize),
+    // no token starts at this offset
+    Unrecognized(usize),
+}
+
+// An offset that a search finds.
+pub enum Found {
+    At(usize),
+    Nowhere,
+}
+
+// Blanks and line ends are no tokens for the parser.
+fn skipped(token: Token) -> bool
+    ensures { λ r. ⌜ r ≡ skipped token ⌝ }
+{
+    let code = token.code();
+    if code == 51 {
+        return true;
+    }
+    code == 0
+}
+
+// The next token of the text behind the lexer's offset: rico's create_parser_token.
+pub fn next_token(class: &[u8; 256], trie: &[u8; 512], text: &[u8], lexer: Lexer) -> Next
+    requires { ⌜ (now class ≡ classes) × (now trie ≡ nodes) × (length (now text) ≤ 65536) × Placed lexer ⌝ }
+    ensures { λ r. ⌜ r ≡ next (now (text .entry)) lexer ⌝ }
+{
+    let mut from = lexer;
+    loop {
+        let at = from.at as usize;
+        if text.len() <= at {
+            return Next::End;
+        }
+        let found = scan::scan_token(class, trie, &text[at..]);
+        let Scan::Hit(token, n) = found else {
+            return Next::Unrecognized(from.at);
+        };
+        let end = at + n;
+        let behind = location::pass_lexeme(token, &text[at..end], from);
+        if skipped(token) {
+            from = behind;
+        } else {
+            let loc = from.until(behind);
+            return Next::On(ParserToken { token, loc }, behind);
+        }
+    }
+}
+
+// The offset where no token starts.
+fn unrecognized(class: &[u8; 256], trie: &[u8; 512], text: &[u8]) -> Found
+    requires { ⌜ (now class ≡ classes) × (now trie ≡ nodes) ⌝ }
+    ensures { λ r. ⌜ r ≡ found (unrecognized (cuts (now (text .entry))) 0) ⌝ }
+{
+    let mut at: usize = 0;
+    while at < text.len() {
+        let found = scan::scan_token(class, trie, &text[at..]);
+        let Scan::Hit(_, n) = found else {
+            return Found::At(at);
+        };
+        at += n;
+    }
+    Found::Nowhere
+}
+
+// The checks of a whole text that come before the grammar: 20, 21, 22.
+pub fn check(text: &[u8]) -> Checked
+    ensures { λ r. ⌜ r ≡ checked (now (text .entry)) ⌝ }
+{
+    if LIMIT < text.len() {
+        return Checked::TooLong;
+    }
+    if let Found::At(at) = utf8::ill_formed(text) {
+        return Checked::IllFormed(at);
+    }
+    let class = table::CLASS;
+    let trie = table::WORDS;
+    match unrecognized(&class, &trie, text) {
+        Found::At(at) => Checked::Unrecognized(at),
+        Found::Nowhere => Checked::Fine,
+    }
+}

@@ -1,0 +1,224 @@
+-- The table of classes is held to the patterns: a byte leaves of each state what its class's representative leaves, and that is the next state.
+--     step-law      behind the byte c the state s is the state that `step` gives for its class
+--     kind-law      the first rule of a state that the empty text matches is the one that `kindAt` gives
+-- Assumes nothing.
+use mathlib.Core.Path.{_≡_, refl, sym, ap, _∙_}
+use mathlib.Core.Bool.{Bool, true, false, cond, Bool·beq}
+use mathlib.Core.List.{List, [], _∷_, map}
+use mathlib.Core.Logic.{⊎-elim}
+use Prim.Native.Nat.{ℕ, zero, suc, _+_, _-_, _<_, _≤_}
+use native.Mathlib.Nat.{le-of-suc-le-suc, not-suc-le-zero}
+use native.Mathlib.Omega.{arith}
+use lib.Dec.{T, ltb, ltb→lt, eqb, leb}
+use lib.ListN.{length, getD, take, drop, length-take, length-drop}
+use lib.Seq.{getD-take, getD-drop}
+use Rattle.token.specs.Regex.{Regex, nothing, empty, set, unset, seq, alt, star, within, nullable, isNothing, then, or, deriv}
+use Rattle.token.specs.Patterns.{Rule, rule}
+use Rattle.token.specs.Scan.{derivs, first}
+use Rattle.token.specs.Tables.{classes, reps}
+use Rattle.token.specs.Run.{classOf}
+use Rattle.token.specs.Automaton.{
+  State, start, dead, blanks, comment, signed, dot, signedDot, slash, zero as zeroed, whole, fraction, exponentSign, exponentDigit, exponentMark,
+  hexMark, hexDigits, named, nameDot, block, blockStar, inString, escaped, closed, rulesAt, openings, step, kindAt
+}
+use Rattle.token.proofs.Numbers.{lt-or-le}
+use Rattle.token.proofs.Every.{both, both-left, both-right, every, at}
+
+-- the two bytes are in the same sets of r, so they leave the same of it
+alike : ℕ → ℕ → Regex → Bool
+alike c d nothing = true
+alike c d empty = true
+alike c d (set s) = Bool·beq (within c s) (within d s)
+alike c d (unset s) = Bool·beq (within c s) (within d s)
+alike c d (seq r s) = both (alike c d r) (alike c d s)
+alike c d (alt r s) = both (alike c d r) (alike c d s)
+alike c d (star r) = alike c d r
+
+beq-eq : (a b : Bool) → T (Bool·beq a b) → a ≡ b
+beq-eq true true t = refl
+beq-eq true false t = absurd t
+beq-eq false true t = absurd t
+beq-eq false false t = refl
+
+alike-deriv : (c d : ℕ) (r : Regex) → T (alike c d r) → deriv c r ≡ deriv d r
+unfolding alike deriv
+alike-deriv c d nothing t = refl
+alike-deriv c d empty t = refl
+alike-deriv c d (set s) t = ap (λ (b : Bool). cond b empty nothing) (beq-eq (within c s) (within d s) t)
+alike-deriv c d (unset s) t = ap (λ (b : Bool). cond b nothing empty) (beq-eq (within c s) (within d s) t)
+alike-deriv c d (seq r s) t =
+    rw (alike-deriv c d r (both-left (alike c d r) _ t), alike-deriv c d s (both-right (alike c d r) _ t))
+alike-deriv c d (alt r s) t =
+    rw (alike-deriv c d r (both-left (alike c d r) _ t), alike-deriv c d s (both-right (alike c d r) _ t))
+alike-deriv c d (star r) t = rw (alike-deriv c d r t)
+
+alikes : ℕ → ℕ → List Rule → Bool
+alikes c d [] = true
+alikes c d (rule k r ∷ rs) = both (alike c d r) (alikes c d rs)
+
+alikes-derivs : (c d : ℕ) (rs : List Rule) → T (alikes c d rs) → derivs c rs ≡ derivs d rs
+unfolding alikes derivs
+alikes-derivs c d [] t = refl
+alikes-derivs c d (rule k r ∷ rs) t =
+    rw (alike-deriv c d r (both-left (alike c d r) _ t), alikes-derivs c d rs (both-right (alike c d r) _ t))
+
+-- THE TEST of the table of classes, in each state: a byte is in the same sets as the representative of its class
+right : List Rule → ℕ → ℕ → Bool
+right rs c k = both (ltb k 60) (alikes c (getD reps k 0) rs)
+
+class-test : (s : State) → T (every (right (rulesAt s)) 0 classes)
+unfolding right rulesAt reps alikes alike within classes
+class-test start = tt
+class-test dead = tt
+class-test blanks = tt
+class-test comment = tt
+class-test signed = tt
+class-test dot = tt
+class-test signedDot = tt
+class-test slash = tt
+class-test zeroed = tt
+class-test whole = tt
+class-test fraction = tt
+class-test exponentSign = tt
+class-test exponentDigit = tt
+class-test exponentMark = tt
+class-test hexMark = tt
+class-test hexDigits = tt
+class-test named = tt
+class-test nameDot = tt
+class-test block = tt
+class-test blockStar = tt
+class-test (inString true) = tt
+class-test (inString false) = tt
+class-test (escaped true) = tt
+class-test (escaped false) = tt
+class-test (closed k) = tt
+
+pub classes-length : length classes ≡ 256
+unfolding classes
+classes-length = refl
+
+class-right : (s : State) (c : ℕ) → c < 256 → T (right (rulesAt s) c (classOf c))
+unfolding classOf
+class-right s c h = at (right (rulesAt s)) classes 0 (class-test s) c (rw classes-length h)
+
+pub class-below : (c : ℕ) → c < 256 → classOf c < 60
+unfolding right
+class-below c h = ltb→lt _ _ (both-left (ltb (classOf c) 60) _ (class-right dead c h))
+
+reps-law : (s : State) (c : ℕ) → c < 256 → derivs c (rulesAt s) ≡ derivs (getD reps (classOf c) 0) (rulesAt s)
+unfolding right
+reps-law s c h = alikes-derivs c (getD reps (classOf c) 0) (rulesAt s) (both-right (ltb (classOf c) 60) _ (class-right s c h))
+
+map-at : {A : Type 0} (f : ℕ → List A) (xs : List ℕ) (k : ℕ) → k < length xs → getD (map f xs) k [] ≡ f (getD xs k 0)
+map-at f [] k h = absurd (not-suc-le-zero h)
+map-at f (x ∷ xs) zero h = refl
+map-at f (x ∷ xs) (suc k) h = map-at f xs k (le-of-suc-le-suc h)
+
+-- the state behind a byte of each class from i on
+nexts : State → ℕ → List ℕ → List (List Rule)
+nexts s i [] = []
+nexts s i (x ∷ xs) = rulesAt (step s i) ∷ nexts s (suc i) xs
+
+nexts-at : (s : State) (xs : List ℕ) (i k : ℕ) → k < length xs → getD (nexts s i xs) k [] ≡ rulesAt (step s (i + k))
+unfolding nexts
+nexts-at s [] i k h = absurd (not-suc-le-zero h)
+nexts-at s (x ∷ xs) i zero h = ap (λ (n : ℕ). rulesAt (step s n)) (omega arith)
+nexts-at s (x ∷ xs) i (suc k) h = nexts-at s xs (suc i) k (le-of-suc-le-suc h) ∙ ap (λ (n : ℕ). rulesAt (step s n)) (omega arith)
+
+-- THE TEST of `step`, in each state: the representative of each class leaves the state that `step` gives. In two halves, for the checker's limit
+low : State → Type 0
+low s = map (λ c. derivs c (rulesAt s)) (take 30 reps) ≡ nexts s 0 (take 30 reps)
+
+high : State → Type 0
+high s = map (λ c. derivs c (rulesAt s)) (drop 30 reps) ≡ nexts s 30 (drop 30 reps)
+
+start-low : low start
+unfolding low nexts rulesAt step openings reps derivs deriv isNothing nullable then or within
+start-low = refl
+
+start-high : high start
+unfolding high nexts rulesAt step openings reps derivs deriv isNothing nullable then or within
+start-high = refl
+
+step-test : (s : State) → low s × high s
+unfolding low high nexts rulesAt step openings reps derivs deriv isNothing nullable then or within
+step-test start = (start-low, start-high)
+step-test dead = (refl, refl)
+step-test blanks = (refl, refl)
+step-test comment = (refl, refl)
+step-test signed = (refl, refl)
+step-test dot = (refl, refl)
+step-test signedDot = (refl, refl)
+step-test slash = (refl, refl)
+step-test zeroed = (refl, refl)
+step-test whole = (refl, refl)
+step-test fraction = (refl, refl)
+step-test exponentSign = (refl, refl)
+step-test exponentDigit = (refl, refl)
+step-test exponentMark = (refl, refl)
+step-test hexMark = (refl, refl)
+step-test hexDigits = (refl, refl)
+step-test named = (refl, refl)
+step-test nameDot = (refl, refl)
+step-test block = (refl, refl)
+step-test blockStar = (refl, refl)
+step-test (inString true) = (refl, refl)
+step-test (inString false) = (refl, refl)
+step-test (escaped true) = (refl, refl)
+step-test (escaped false) = (refl, refl)
+step-test (closed k) = (refl, refl)
+
+pub reps-length : length reps ≡ 60
+unfolding reps
+reps-length = refl
+
+row : (s : State) (xs : List ℕ) (i k : ℕ) → map (λ c. derivs c (rulesAt s)) xs ≡ nexts s i xs → k < length xs
+    → derivs (getD xs k 0) (rulesAt s) ≡ rulesAt (step s (i + k))
+row s xs i k e h = sym (map-at (λ c. derivs c (rulesAt s)) xs k h) ∙ ap (λ (l : List (List Rule)). getD l k []) e ∙ nexts-at s xs i k h
+
+rep-step : (s : State) (k : ℕ) → k < 60 → derivs (getD reps k 0) (rulesAt s) ≡ rulesAt (step s k)
+unfolding low high
+rep-step s k h = ⊎-elim lower upper (lt-or-le k 30)
+  where
+    lower : k < 30 → derivs (getD reps k 0) (rulesAt s) ≡ rulesAt (step s k)
+    lower l =
+        let z : 0 + k ≡ k = omega arith in
+        let g : k < length (take 30 reps) = simp length-take (omega (arith, reps-length)) in
+        rw (getD-take 30 reps k 0 l, z) at (row s (take 30 reps) 0 k (step-test s .0) g)
+    upper : 30 ≤ k → derivs (getD reps k 0) (rulesAt s) ≡ rulesAt (step s k)
+    upper l =
+        let z : 30 + (k - 30) ≡ k = omega arith in
+        let g : k - 30 < length (drop 30 reps) = simp length-drop (omega (arith, reps-length)) in
+        rw (getD-drop 30 reps (k - 30) 0, z) at (row s (drop 30 reps) 30 (k - 30) (step-test s .1) g)
+
+pub step-law : (s : State) (c : ℕ) → c < 256 → derivs c (rulesAt s) ≡ rulesAt (step s (classOf c))
+step-law s c h = reps-law s c h ∙ rep-step s (classOf c) (class-below c h)
+
+pub kind-law : (s : State) → first (rulesAt s) ≡ kindAt s
+unfolding first rulesAt kindAt nullable
+kind-law start = refl
+kind-law dead = refl
+kind-law blanks = refl
+kind-law comment = refl
+kind-law signed = refl
+kind-law dot = refl
+kind-law signedDot = refl
+kind-law slash = refl
+kind-law zeroed = refl
+kind-law whole = refl
+kind-law fraction = refl
+kind-law exponentSign = refl
+kind-law exponentDigit = refl
+kind-law exponentMark = refl
+kind-law hexMark = refl
+kind-law hexDigits = refl
+kind-law named = refl
+kind-law nameDot = refl
+kind-law block = refl
+kind-law blockStar = refl
+kind-law (inString true) = refl
+kind-law (inString false) = refl
+kind-law (escaped true) = refl
+kind-law (escaped false) = refl
+kind-law (closed k) = refl

@@ -1,0 +1,9 @@
+pub mod Numbers
+pub mod Truth
+pub mod Every
+pub mod Classes
+pub mod Reach
+pub mod Words
+pub mod Trie
+pub mod Matching
+pub mod Meaning

@@ -1,0 +1,9 @@
+pub mod Code
+pub mod Regex
+pub mod Patterns
+pub mod Scan
+pub mod Match
+pub mod Tables
+pub mod Run
+pub mod Automaton
+pub mod Words
