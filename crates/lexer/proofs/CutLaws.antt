@@ -108,6 +108,6 @@ module _ (t : List ℕ) (s : Lexer) where
   unfolding next nextOf
   next-hit k n f e g =
       let m : s .at + n ≡ e .at
-            = sym (ap (λ (x : Lexer). x .at) g ∙ pass-at (take n (drop (s .at) t)) k s ∙ rw (length-take-le n (drop (s .at) t) (hit-fits (drop (s .at) t) k n f .1))) in
+      = sym (ap (λ (x : Lexer). x .at) g ∙ pass-at (take n (drop (s .at) t)) k s ∙ rw (length-take-le n (drop (s .at) t) (hit-fits (drop (s .at) t) k n f .1))) in
       ap (λ (c : Cuts). nextOf c s) (cuts-hit (drop (s .at) t) k n f)
       ∙ rw (← g, drop-drop n (s .at) t, m)

@@ -10,8 +10,37 @@ use Rattle.token.specs.Scan.{keep, scanFrom}
 use Rattle.token.specs.Tables.{classes}
 use Rattle.token.specs.Run.{classOf}
 use Rattle.token.specs.Automaton.{
-  State, start, dead, blanks, comment, signed, dot, signedDot, slash, zero, whole, fraction, exponentSign, exponentDigit, exponentMark, hexMark, hexDigits,
-  named, nameDot, block, blockStar, inString, escaped, closed, kindAt, openings, whole-byte, opened, rulesAt, longest, Reached
+  State,
+  start,
+  dead,
+  blanks,
+  comment,
+  signed,
+  dot,
+  signedDot,
+  slash,
+  zero,
+  whole,
+  fraction,
+  exponentSign,
+  exponentDigit,
+  exponentMark,
+  hexMark,
+  hexDigits,
+  named,
+  nameDot,
+  block,
+  blockStar,
+  inString,
+  escaped,
+  closed,
+  kindAt,
+  openings,
+  whole-byte,
+  opened,
+  rulesAt,
+  longest,
+  Reached,
 }
 use Rattle.token.specs.declared.Scan.the-variants.{Miss}
 use Rattle.token.proofs.Every.{every, at}

@@ -11,8 +11,37 @@ use lib.ListN.{length, getD}
 use Rattle.token.specs.Scan.{keep, scanFrom, scan}
 use Rattle.token.specs.Run.{classOf}
 use Rattle.token.specs.Automaton.{
-  State, start, dead, blanks, comment, signed, dot, signedDot, slash, zero, whole, fraction, exponentSign, exponentDigit, exponentMark, hexMark, hexDigits,
-  named, nameDot, block, blockStar, inString, escaped, closed, step, kindAt, openings, quote, stop, longest, Reached
+  State,
+  start,
+  dead,
+  blanks,
+  comment,
+  signed,
+  dot,
+  signedDot,
+  slash,
+  zero,
+  whole,
+  fraction,
+  exponentSign,
+  exponentDigit,
+  exponentMark,
+  hexMark,
+  hexDigits,
+  named,
+  nameDot,
+  block,
+  blockStar,
+  inString,
+  escaped,
+  closed,
+  step,
+  kindAt,
+  openings,
+  quote,
+  stop,
+  longest,
+  Reached,
 }
 use Rattle.token.specs.declared.Token.{Token}
 use Rattle.token.specs.declared.Token.the-variants as T
@@ -21,7 +50,15 @@ use Rattle.token.specs.declared.Scan.the-variants.{Miss, Hit}
 use Rattle.token.proofs.Numbers.{lt-or-le}
 use Rattle.token.proofs.Reach.{Spins, ended, run-fits, run-stops, reach-step, reach-end, reach-stop, reach-run, reach-like}
 use Rattle.lexer.proofs.Spins.{
-  spins-whole, spins-fraction, spins-exponent, spins-hex, spins-named, spins-blanks, spins-comment, spins-block, spins-string
+  spins-whole,
+  spins-fraction,
+  spins-exponent,
+  spins-hex,
+  spins-named,
+  spins-blanks,
+  spins-comment,
+  spins-block,
+  spins-string,
 }
 
 -- one byte on, to a state that is known

@@ -1,9 +1,10 @@
 // The lexer: from any byte string to its tokens, proved.
 pub mod location;
-pub mod table;
-mod words;
-pub mod utf8;
 pub mod scan;
+pub mod table;
+pub mod utf8;
+mod words;
+
 ghost use mathlib.Core.Path.{_≡_};
 ghost use Prim.Native.Nat.{_≤_};
 ghost use lib.ListN.{length};
@@ -13,11 +14,11 @@ ghost use Rattle.lexer.specs.Cuts.{cuts, unrecognized};
 ghost use Rattle.lexer.specs.Location.{Placed};
 ghost use Rattle.lexer.specs.Tokens.{skipped, next};
 ghost use Rattle.lexer.specs.Check.{checked};
-use token::Token;
-use token::Scan;
 use location::Lexer;
 use location::Next;
 use location::ParserToken;
+use token::Scan;
+use token::Token;
 
 // The longest text that is read.
 const LIMIT: usize = 65536;

@@ -1,7 +1,7 @@
 // Which token starts a text, and how long it is: branches over the classes of its bytes. Each byte is looked at once, but for two at most behind a token.
+use crate::words;
 use token::Scan;
 use token::Token;
-use crate::words;
 ghost use mathlib.Core.Path.{_≡_};
 ghost use Prim.Native.Nat.{_+_, _-_, _<_, _≤_};
 ghost use lib.ListN.{length, drop, getD};
@@ -15,20 +15,35 @@ ghost use Rattle.token.specs.declared.Scan.the-variants.{Miss, Hit};
 
 // The classes, in the order of their numbers: the digits are those below E, the letters go on to the dot.
 const E: u8 = 8;
+
 const HEX: u8 = 10;
+
 const X: u8 = 16;
+
 const NO_X: u8 = 18;
+
 const DOT: u8 = 36;
+
 const STAR: u8 = 37;
+
 const SLASH: u8 = 38;
+
 const LINE_FEED: u8 = 39;
+
 const RETURN: u8 = 40;
+
 const DOUBLE_QUOTE: u8 = 41;
+
 const BACKSLASH: u8 = 42;
+
 const SINGLE_QUOTE: u8 = 43;
+
 const HASH: u8 = 44;
+
 const SIGN: u8 = 45;
+
 const BLANK: u8 = 59;
+
 const CLASSES: u8 = 60;
 
 // The class of a byte of the text.

@@ -18,8 +18,34 @@ use Rattle.token.specs.Scan.{derivs, first}
 use Rattle.token.specs.Tables.{classes, reps}
 use Rattle.token.specs.Run.{classOf}
 use Rattle.token.specs.Automaton.{
-  State, start, dead, blanks, comment, signed, dot, signedDot, slash, zero as zeroed, whole, fraction, exponentSign, exponentDigit, exponentMark,
-  hexMark, hexDigits, named, nameDot, block, blockStar, inString, escaped, closed, rulesAt, openings, step, kindAt
+  State,
+  start,
+  dead,
+  blanks,
+  comment,
+  signed,
+  dot,
+  signedDot,
+  slash,
+  zero as zeroed,
+  whole,
+  fraction,
+  exponentSign,
+  exponentDigit,
+  exponentMark,
+  hexMark,
+  hexDigits,
+  named,
+  nameDot,
+  block,
+  blockStar,
+  inString,
+  escaped,
+  closed,
+  rulesAt,
+  openings,
+  step,
+  kindAt,
 }
 use Rattle.token.proofs.Numbers.{lt-or-le}
 use Rattle.token.proofs.Every.{both, both-left, both-right, every, at}
@@ -186,6 +212,7 @@ rep-step s k h = ⊎-elim lower upper (lt-or-le k 30)
         let z : 0 + k ≡ k = omega arith in
         let g : k < length (take 30 reps) = simp length-take (omega (arith, reps-length)) in
         rw (getD-take 30 reps k 0 l, z) at (row s (take 30 reps) 0 k (step-test s .0) g)
+
     upper : 30 ≤ k → derivs (getD reps k 0) (rulesAt s) ≡ rulesAt (step s k)
     upper l =
         let z : 30 + (k - 30) ≡ k = omega arith in

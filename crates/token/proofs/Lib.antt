@@ -7,3 +7,5 @@ pub mod Words
 pub mod Trie
 pub mod Matching
 pub mod Meaning
+pub mod Stable
+pub mod Examples

@@ -45,9 +45,10 @@ then-in nothing s w = (λ h. absurd h, λ h. absurd (h .3))
 then-in empty s w = (λ h. ([], w, refl, refl, h), λ h. rw (h .2, h .3) (h .4))
 then-in (set a) s w = (λ h. h, λ h. h)
 then-in (unset a) s w = (λ h. h, λ h. h)
-then-in (seq a b) s w =
-    (λ h. let g = then-in b s (h .1) .0 (h .4) in (h .0 ++ g .0, g .1, h .2 ∙ ap (λ l. h .0 ++ l) (g .2) ∙ sym (append-assoc (h .0) (g .0) (g .1)), (h .0, g .0, refl, h .3, g .3), g .4),
-    λ h. let g = h .3 in (g .0, g .1 ++ h .1, h .2 ∙ ap (λ l. l ++ h .1) (g .2) ∙ append-assoc (g .0) (g .1) (h .1), g .3, then-in b s (g .1 ++ h .1) .1 (g .1, h .1, refl, g .4, h .4)))
+then-in (seq a b) s w = (
+  λ h. let g = then-in b s (h .1) .0 (h .4) in (h .0 ++ g .0, g .1, h .2 ∙ ap (λ l. h .0 ++ l) (g .2) ∙ sym (append-assoc (h .0) (g .0) (g .1)), (h .0, g .0, refl, h .3, g .3), g .4),
+  λ h. let g = h .3 in (g .0, g .1 ++ h .1, h .2 ∙ ap (λ l. l ++ h .1) (g .2) ∙ append-assoc (g .0) (g .1) (h .1), g .3, then-in b s (g .1 ++ h .1) .1 (g .1, h .1, refl, g .4, h .4)),
+)
 then-in (alt a b) s w = (λ h. h, λ h. h)
 then-in (star a) s w = (λ h. h, λ h. h)
 
@@ -71,12 +72,14 @@ nullable-in nothing = (λ t. absurd t, λ h. h)
 nullable-in empty = (λ t. refl, λ h. tt)
 nullable-in (set s) = (λ t. absurd t, λ h. nil-not-cons (sym (h .1)))
 nullable-in (unset s) = (λ t. absurd t, λ h. nil-not-cons (sym (h .1)))
-nullable-in (seq r s) =
-    (λ t. let g = and-T (nullable r) (nullable s) .0 t in ([], [], refl, nullable-in r .0 (g .0), nullable-in s .0 (g .1)),
-    λ h. let n = nils (h .0) (h .1) (h .2) in and-T (nullable r) (nullable s) .1 (nullable-in r .1 (rw (n .0) at (h .3)), nullable-in s .1 (rw (n .1) at (h .4))))
-nullable-in (alt r s) =
-    (λ t. ⊎-elim (λ g. inl (nullable-in r .0 g)) (λ g. inr (nullable-in s .0 g)) (or-T (nullable r) (nullable s) .0 t),
-    λ h. or-T (nullable r) (nullable s) .1 (⊎-elim (λ g. inl (nullable-in r .1 g)) (λ g. inr (nullable-in s .1 g)) h))
+nullable-in (seq r s) = (
+  λ t. let g = and-T (nullable r) (nullable s) .0 t in ([], [], refl, nullable-in r .0 (g .0), nullable-in s .0 (g .1)),
+  λ h. let n = nils (h .0) (h .1) (h .2) in and-T (nullable r) (nullable s) .1 (nullable-in r .1 (rw (n .0) at (h .3)), nullable-in s .1 (rw (n .1) at (h .4))),
+)
+nullable-in (alt r s) = (
+  λ t. ⊎-elim (λ g. inl (nullable-in r .0 g)) (λ g. inr (nullable-in s .0 g)) (or-T (nullable r) (nullable s) .0 t),
+  λ h. or-T (nullable r) (nullable s) .1 (⊎-elim (λ g. inl (nullable-in r .1 g)) (λ g. inr (nullable-in s .1 g)) h),
+)
 nullable-in (star r) = (λ t. stop refl, λ h. tt)
 
 -- ---- one byte
@@ -110,20 +113,23 @@ deriv-in (unset s) c w = go (within c s) refl
     go : (p : Bool) → within c s ≡ p → In (cond p nothing empty) w ↔ In (unset s) (c ∷ w)
     go false e = (λ h. (c, ap (c ∷_) h, e), λ h. cc (h .1))
     go true e = (λ h. absurd h, λ h. let d : h .0 ≡ c = cc (h .1) in let z : _≡_ {A = ℕ} 0 1 = cc (h .2, ap (λ x. within x s) d) in omega arith)
-deriv-in (seq r s) c w =
-    (λ h. ⊎-elim (λ a. let g = then-in (deriv c r) s w .0 a in (c ∷ g .0, g .1, ap (c ∷_) (g .2), deriv-in r c (g .0) .0 (g .3), g .4))
-    (λ a. let g = cond-in (nullable r) (deriv c s) w .0 a in ([], c ∷ w, refl, nullable-in r .0 (g .0), deriv-in s c w .0 (g .1)))
-    (or-in (then (deriv c r) s) (cond (nullable r) (deriv c s) nothing) w .0 h),
-    λ h. or-in (then (deriv c r) s) (cond (nullable r) (deriv c s) nothing) w .1
-    (⊎-elim (λ g. inr (cond-in (nullable r) (deriv c s) w .1 (nullable-in r .1 (rw (g .0) at (h .3)), deriv-in s c w .1 (rw (g .1) at (h .4)))))
-    (λ g. inl (then-in (deriv c r) s w .1 (g .0, h .1, g .2, deriv-in r c (g .0) .1 (rw (g .1) at (h .3)), h .4)))
-    (parts c w (h .0) (h .1) (h .2))))
-deriv-in (alt r s) c w =
-    (λ h. ⊎-elim (λ g. inl (deriv-in r c w .0 g)) (λ g. inr (deriv-in s c w .0 g)) (or-in (deriv c r) (deriv c s) w .0 h),
-    λ h. or-in (deriv c r) (deriv c s) w .1 (⊎-elim (λ g. inl (deriv-in r c w .1 g)) (λ g. inr (deriv-in s c w .1 g)) h))
-deriv-in (star r) c w =
-    (λ h. let g = then-in (deriv c r) (star r) w .0 h in more (ap (c ∷_) (g .2)) (deriv-in r c (g .0) .0 (g .3)) (g .4),
-    λ h. then-in (deriv c r) (star r) w .1 (star-more (In r) (In (deriv c r)) c w (c ∷ w) (λ u. deriv-in r c u .1) refl h))
+deriv-in (seq r s) c w = (
+  λ h. ⊎-elim (λ a. let g = then-in (deriv c r) s w .0 a in (c ∷ g .0, g .1, ap (c ∷_) (g .2), deriv-in r c (g .0) .0 (g .3), g .4))
+      (λ a. let g = cond-in (nullable r) (deriv c s) w .0 a in ([], c ∷ w, refl, nullable-in r .0 (g .0), deriv-in s c w .0 (g .1)))
+      (or-in (then (deriv c r) s) (cond (nullable r) (deriv c s) nothing) w .0 h),
+  λ h. or-in (then (deriv c r) s) (cond (nullable r) (deriv c s) nothing) w .1
+      (⊎-elim (λ g. inr (cond-in (nullable r) (deriv c s) w .1 (nullable-in r .1 (rw (g .0) at (h .3)), deriv-in s c w .1 (rw (g .1) at (h .4)))))
+      (λ g. inl (then-in (deriv c r) s w .1 (g .0, h .1, g .2, deriv-in r c (g .0) .1 (rw (g .1) at (h .3)), h .4)))
+      (parts c w (h .0) (h .1) (h .2))),
+)
+deriv-in (alt r s) c w = (
+  λ h. ⊎-elim (λ g. inl (deriv-in r c w .0 g)) (λ g. inr (deriv-in s c w .0 g)) (or-in (deriv c r) (deriv c s) w .0 h),
+  λ h. or-in (deriv c r) (deriv c s) w .1 (⊎-elim (λ g. inl (deriv-in r c w .1 g)) (λ g. inr (deriv-in s c w .1 g)) h),
+)
+deriv-in (star r) c w = (
+  λ h. let g = then-in (deriv c r) (star r) w .0 h in more (ap (c ∷_) (g .2)) (deriv-in r c (g .0) .0 (g .3)) (g .4),
+  λ h. then-in (deriv c r) (star r) w .1 (star-more (In r) (In (deriv c r)) c w (c ∷ w) (λ u. deriv-in r c u .1) refl h),
+)
 
 -- ---- a whole text
 

@@ -53,7 +53,7 @@ module _ {t : List ℕ} {s : State} {i : ℕ} {b : Scan} (r : Reached t s i b) w
         bytes = r .bytes;
         inside = omega arith;
         decides =
-          r .decides ∙ ap (scanFrom (rulesAt s) i b) (drop-cons t i 0 h) ∙ scan-step s i b (getD t i 0) (drop (suc i) t) (r .bytes i) ∙ rw (e, add-one)
+            r .decides ∙ ap (scanFrom (rulesAt s) i b) (drop-cons t i 0 h) ∙ scan-step s i b (getD t i 0) (drop (suc i) t) (r .bytes i) ∙ rw (e, add-one);
       }
 
   pub reach-end : length t ≤ i → longest t ≡ b
@@ -74,11 +74,11 @@ reach-like {t} {s} {i} {b} r q k h e f =
       bytes = r .bytes;
       inside = r .inside;
       decides =
-        r .decides ∙ ap (scanFrom (rulesAt s) i b) (drop-cons t i 0 h)
-        ∙ scan-step s i b (getD t i 0) (drop (suc i) t) (r .bytes i)
-        ∙ ap (λ (x : State). scanFrom (rulesAt x) (suc i) (keep (kindAt x) (suc i) b) (drop (suc i) t)) (ap (step s) e ∙ f ∙ ap (step q) (sym e))
-        ∙ sym (scan-step q i b (getD t i 0) (drop (suc i) t) (r .bytes i))
-        ∙ ap (scanFrom (rulesAt q) i b) (sym (drop-cons t i 0 h))
+          r .decides ∙ ap (scanFrom (rulesAt s) i b) (drop-cons t i 0 h)
+          ∙ scan-step s i b (getD t i 0) (drop (suc i) t) (r .bytes i)
+          ∙ ap (λ (x : State). scanFrom (rulesAt x) (suc i) (keep (kindAt x) (suc i) b) (drop (suc i) t)) (ap (step s) e ∙ f ∙ ap (step q) (sym e))
+          ∙ sym (scan-step q i b (getD t i 0) (drop (suc i) t) (r .bytes i))
+          ∙ ap (scanFrom (rulesAt q) i b) (sym (drop-cons t i 0 h));
     }
 
 -- ---- a run of bytes
@@ -113,6 +113,7 @@ spin s from to l (c ∷ w) h i b e =
   where
     n : ℕ
     n = before from to w
+
     go : (p : Bool) → stops from to c ≡ p
         → scanFrom (rulesAt s) (suc i) (keep (kindAt s) (suc i) b) w
         ≡ scanFrom (rulesAt s) (suc i + n) (keep (kindAt s) (suc i + n) (keep (kindAt s) (suc i) b)) (drop n w)
@@ -177,7 +178,7 @@ reach-run {t} {s} {i} {b} r from to l e =
       bytes = r .bytes;
       inside = run-fits from to t i (r .inside);
       decides =
-        r .decides
-        ∙ spin s from to l (drop i t) (λ j. rw (getD-drop i t j 0) (r .bytes (i + j))) i b e
-        ∙ ap (scanFrom (rulesAt s) (ended from to t i) (keep (kindAt s) (ended from to t i) b)) (drop-drop (before from to (drop i t)) i t)
+          r .decides
+          ∙ spin s from to l (drop i t) (λ j. rw (getD-drop i t j 0) (r .bytes (i + j))) i b e
+          ∙ ap (scanFrom (rulesAt s) (ended from to t i) (keep (kindAt s) (ended from to t i) b)) (drop-drop (before from to (drop i t)) i t);
     }

@@ -61,10 +61,10 @@ unfolding lookup
 dead-lookup t i e =
     record {
       plain = λ k n h.
-        ap (λ (x : List ℕ). lookup words x k) (sym (take-append-drop i (take n t)))
-        ∙ lookup-strip (take i (take n t)) (drop i (take n t)) words k
-        ∙ ap (λ (x : List ℕ). lookup (stripAll x words) (drop i (take n t)) k) (take-take i n t h)
-        ∙ rw e
+          ap (λ (x : List ℕ). lookup words x k) (sym (take-append-drop i (take n t)))
+          ∙ lookup-strip (take i (take n t)) (drop i (take n t)) words k
+          ∙ ap (λ (x : List ℕ). lookup (stripAll x words) (drop i (take n t)) k) (take-take i n t h)
+          ∙ rw e;
     }
 
 -- ---- bytes of one class
@@ -100,6 +100,7 @@ alikes-left c d b (word k (a ∷ u) ∷ ws) t =
     pair : (p q : Bool) → T p → T q → T (both p q)
     pair true q x y = y
     pair false q x y = x
+
     go : (p : Bool) → T (alike c d u) → T (alikes c d (strip b ws)) → T (alikes c d (cond p (word k u ∷ strip b ws) (strip b ws)))
     go true x y = pair (alike c d u) _ x y
     go false x y = y
@@ -145,7 +146,6 @@ node n s = let u = bytes s in cond (eqb n 0) true (every (cell n u) 0 (take 36 r
 trie-test : T (every node 0 spellings)
 unfolding node cell nil strip stripAll words token bytes spellings spelling same child trie reps
 trie-test = tt
-
 
 spellings-length : length spellings ≡ 151
 unfolding spellings
@@ -230,6 +230,7 @@ absents-left c b (word k (a ∷ u) ∷ ws) t =
     pair : (p q : Bool) → T p → T q → T (both p q)
     pair true q x y = y
     pair false q x y = x
+
     go : (p : Bool) → T (absent c u) → T (absents c (strip b ws)) → T (absents c (cond p (word k u ∷ strip b ws) (strip b ws)))
     go true x y = pair (absent c u) _ x y
     go false x y = y
@@ -281,8 +282,10 @@ no-word-first t h c = (λ l. from-start t (dead (rw (lt-leb _ _ l) at one)), λ 
   where
     one : T (first (getD t 0 0) (getD classes (getD t 0 0) 0))
     one = at first classes 0 first-test (getD t 0 0) (rw classes-length c)
+
     dead : T (nil (strip (getD t 0 0) words)) → NoWord t 1
     dead x = dead-lookup t 1 (stripped t 0 h ∙ nil-eq _ x)
+
     go : (b : Bool) → T (cond (b && false) true (nil (strip (getD t 0 0) words))) → T (nil (strip (getD t 0 0) words))
     go true x = x
     go false x = x

@@ -13,10 +13,48 @@ use lib.Dec.{T, leb, eqb, eqb→eq, T-not}
 use lib.ListN.{length, take, length-append}
 use lib.Seq.{take-append-seam}
 use Rattle.token.specs.Regex.{
-  Range, Regex, nothing, empty, set, unset, seq, alt, star, bytes, ranges, within, nullable, isNothing, then, or, deriv
+  Range,
+  Regex,
+  nothing,
+  empty,
+  set,
+  unset,
+  seq,
+  alt,
+  star,
+  bytes,
+  ranges,
+  within,
+  nullable,
+  isNothing,
+  then,
+  or,
+  deriv,
 }
 use Rattle.token.specs.Patterns.{
-  Rule, rule, Word, word, oneOf, noneOf, plus, opt, exact, wordRule, token, words, marks, name, quoted, digits, sign, exponent, point, stars, shapes, rest, rules
+  Rule,
+  rule,
+  Word,
+  word,
+  oneOf,
+  noneOf,
+  plus,
+  opt,
+  exact,
+  wordRule,
+  token,
+  words,
+  marks,
+  name,
+  quoted,
+  digits,
+  sign,
+  exponent,
+  point,
+  stars,
+  shapes,
+  rest,
+  rules,
 }
 use Rattle.token.specs.Scan.{derivs, first, keep, scanFrom, scan}
 use Rattle.token.specs.Code.{code, is}
@@ -59,6 +97,7 @@ only a c = pick (eqb a c) refl
     least : (b : Bool) → leb a c ≡ b → eqb a c ≡ false → (leb a c && leb c a || false) ≡ false
     least true e f = rw (e, lt-leb c a (omega (arith, leb-true a c e, eqb-false a c f)))
     least false e f = rw e
+
     pick : (b : Bool) → eqb a c ≡ b → (leb a c && leb c a || false) ≡ b
     pick true e = rw (le-leb a c (omega (arith, eqb-true a c e)), le-leb c a (omega (arith, eqb-true a c e)))
     pick false e = least (leb a c) refl e
@@ -74,6 +113,7 @@ derivs-exact c k a v = rw (only a c) (go (eqb a c))
   where
     one : Token → Regex → List Rule
     one k d = cond (isNothing d) [] (rule k d ∷ [])
+
     go : (b : Bool) → one k (or (then (cond b empty nothing) (exact v)) nothing) ≡ cond b (rule k (exact v) ∷ []) []
     go true = rw (exact-some v, exact-some v)
     go false = refl
@@ -150,14 +190,18 @@ kept t u n o b e f = ⊎-elim plain other (known words u named-words)
     idem : (q : Bool) (k : Token) → Hit k n ≡ Hit (cond q k k) n
     idem true k = refl
     idem false k = refl
+
     pick : (o : Option Token) → ((k : Token) → lookup words u k ≡ k) → keep o n (rename t b) ≡ rename t (keep o n b)
     pick none h = refl
     pick (some k) h = rw (e, h k) (idem (is k T.Identifier) k)
+
     plain : ((o : Option Token) → try words u o ≡ o) × ((k : Token) → lookup words u k ≡ k) → keep (try words u o) n (rename t b) ≡ rename t (keep o n b)
     plain h = rw (h .0 o) (pick o (h .1))
+
     found : (o : Option Token) → T (identifier o) → ((p : Option Token) (k : Token) → try words u p ≡ some (lookup words u k)) → keep (try words u o) n (rename t b) ≡ rename t (keep o n b)
     found none i h = absurd i
     found (some k) i h = rw (h (some k) k, T-true (is k T.Identifier) i, e)
+
     other : T (identifier (first (after rest u))) × ((p : Option Token) (k : Token) → try words u p ≡ some (lookup words u k)) → keep (try words u o) n (rename t b) ≡ rename t (keep o n b)
     other h = found o (rw f (h .0)) (h .1)
 
@@ -178,7 +222,7 @@ words-from (c ∷ w) u t b e =
     let g : take (suc (length u)) t ≡ v = rw (f, ← length-snoc u c) (take-append-seam v w) in
     let k : Option Token = first (after rest v) in
     let i : scanFrom (after rules v) (length v) (rename t (keep k (suc (length u)) b)) w ≡ rename t (scanFrom (after rest v) (length v) (keep k (suc (length u)) b) w)
-          = words-from w v t (keep k (suc (length u)) b) f in
+    = words-from w v t (keep k (suc (length u)) b) f in
     rw (← after-snoc u rules c, ← after-snoc u rest c, first-rules v, kept t v (suc (length u)) k b g refl) (rw (length-snoc u c) at i)
 
 pub scan-words : (t : List ℕ) → scan t ≡ rename t (longest t)
@@ -193,6 +237,7 @@ scan-plain t b h e = scan-words t ∙ ap (rename t) e ∙ go b
     idem : (q : Bool) (k : Token) → cond q k k ≡ k
     idem true k = refl
     idem false k = refl
+
     go : (b : Scan) → rename t b ≡ b
     go Miss = refl
     go (Hit k n) = rw (h .plain k n (omega arith)) (ap (λ (x : Token). Hit x n) (idem (is k T.Identifier) k))

@@ -8,7 +8,25 @@ use lib.Dec.{eqb, ltb, leb}
 use lib.ListN.{length, getD, drop}
 use Rattle.token.specs.Regex.{Regex, empty, bytes as ascii, ranges, within, nullable, isNothing, then, or, deriv}
 use Rattle.token.specs.Patterns.{
-  Rule, rule, oneOf, noneOf, plus, opt, exact, wordRule, token, marks, name, quoted, digits, sign, exponent, point, stars, shapes, rest
+  Rule,
+  rule,
+  oneOf,
+  noneOf,
+  plus,
+  opt,
+  exact,
+  wordRule,
+  token,
+  marks,
+  name,
+  quoted,
+  digits,
+  sign,
+  exponent,
+  point,
+  stars,
+  shapes,
+  rest,
 }
 use Rattle.token.specs.Scan.{derivs, scanFrom}
 use Rattle.token.specs.declared.Token.{Token}

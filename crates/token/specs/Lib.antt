@@ -7,3 +7,4 @@ pub mod Tables
 pub mod Run
 pub mod Automaton
 pub mod Words
+pub mod Breaks

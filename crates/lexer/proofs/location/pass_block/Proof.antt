@@ -35,10 +35,10 @@ loop-again c =
     let a = l .before .before in
     let w = a .args .comment .now in
     let e : c .behind .result ≡ pass (take (l .loop .i + 1) w) T.BlockComment (a .args .lexer)
-          = c .behind .ensures
-          ∙ rw (l .loop .inv .2)
-          (sym (pass-more w T.BlockComment (a .args .lexer) (l .loop .i) (c .before .before .loop-test .taken)
-          ∙ ap (λ (p : Bool). behind p (pass (take (l .loop .i) w) T.BlockComment (a .args .lexer))) (block-line _))) in
+    = c .behind .ensures
+    ∙ rw (l .loop .inv .2)
+    (sym (pass-more w T.BlockComment (a .args .lexer) (l .loop .i) (c .before .before .loop-test .taken)
+    ∙ ap (λ (p : Bool). behind p (pass (take (l .loop .i) w) T.BlockComment (a .args .lexer))) (block-line _))) in
     (omega arith, ap (λ x. x .at) e ∙ pass-at _ T.BlockComment (a .args .lexer) ∙ omega (arith, length-take (l .loop .i + 1) w), e)
 
 returns : tie.Need-returns Inv-loop μ-loop

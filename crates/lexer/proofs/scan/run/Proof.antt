@@ -32,13 +32,14 @@ returns c =
 loop-again : tie.Need-loop-again Inv-loop μ-loop
 loop-again c =
     let d = c .before in
-    let a = d .before .before in
-    (omega arith,
-    a .loop .inv .1
-    ∙ ⊎-elim
-    (λ w. run-above _ _ _ _ (d .before .loop-test .taken) (rw (d .class-at .ensures) at (w .0 .taken)) (rw (d .class-at .ensures) at (w .1 .left)))
-    (λ w. run-below _ _ _ _ (d .before .loop-test .taken) (rw (d .class-at .ensures) at (w .left)))
-    (c .if1 .came))
+    let a = d .before .before in (
+      omega arith,
+      a .loop .inv .1
+          ∙ ⊎-elim
+          (λ w. run-above _ _ _ _ (d .before .loop-test .taken) (rw (d .class-at .ensures) at (w .0 .taken)) (rw (d .class-at .ensures) at (w .1 .left)))
+          (λ w. run-below _ _ _ _ (d .before .loop-test .taken) (rw (d .class-at .ensures) at (w .left)))
+          (c .if1 .came),
+    )
 
 returns-2 : tie.Need-returns-2 Inv-loop μ-loop
 returns-2 c = sym (c .before .loop .inv .1 ∙ run-all _ _ _ _ (c .loop-test .left))
