@@ -1,0 +1,49 @@
+// PROBE, not rico's and no stand-in: lets the oracle read what rico keeps private.
+// It stands below rico's parser module because only that module's children see its private parts.
+
+use crate::parser::error::ParseError;
+use crate::parser::{Parser, ParserToken};
+
+impl<'a> Parser<'a> {
+    /// The next token with its places, by rico's create_parser_token; for a parser that never parsed.
+    /// With no token: the offset that starts none, or nothing at the end of the text.
+    pub fn probe_token(&mut self) -> (Option<ParserToken<'a>>, Option<usize>) {
+        match self.create_parser_token() {
+            Some(token) => (Some(token), None),
+            // create_parser_token sets last_span on an error and leaves it at the end.
+            None => {
+                let span = self.lexer.span();
+                let failed = self.last_span == span && !span.is_empty();
+                (None, failed.then_some(span.start))
+            }
+        }
+    }
+}
+
+impl ParseError {
+    /// Number (the place in ParseErrorKind, from 1), byte offset and length.
+    pub fn probe_refusal(&self) -> (u32, usize, usize) {
+        let (number, span) = match self {
+            ParseError::UnrecognizedToken { span } => (1, span),
+            ParseError::UnexpectedToken { span } => (2, span),
+            ParseError::UnexpectedEOF { span } => (3, span),
+            ParseError::UnsupportedType { span } => (4, span),
+            ParseError::MissingTypeDeclaration { span } => (5, span),
+            ParseError::InvalidValueDeclaration { span } => (6, span),
+            ParseError::InvalidReturnType { span } => (7, span),
+            ParseError::InvalidFieldName { span } => (8, span),
+            ParseError::InvalidFieldId { span } => (9, span),
+            ParseError::MissingNamespaceIdentifier { span } => (10, span),
+            ParseError::MissingNamespaceScope { span } => (11, span),
+            ParseError::MissingIncludeIdentifier { span } => (12, span),
+            ParseError::MissingConstIdentifier { span } => (13, span),
+            ParseError::MissingTypedefIdentifier { span } => (14, span),
+            ParseError::MissingEnumIdentifier { span } => (15, span),
+            ParseError::MissingStructIdentifier { span } => (16, span),
+            ParseError::MissingServiceIdentifier { span } => (17, span),
+            ParseError::MissingServiceExtends { span } => (18, span),
+            ParseError::InvalidEnumMemberName { span } => (19, span),
+        };
+        (number, span.offset(), span.len())
+    }
+}
