@@ -10,7 +10,7 @@ use mathlib.Core.List.{List, [], _∷_, _++_}
 use mathlib.Core.Option.{Option, some, none}
 use Prim.Native.Nat.{ℕ, zero, suc, _+_, _-_, _<_, _≤_}
 use native.Mathlib.Omega.{arith}
-use borrow.Author.Tests.{le-ltb, lt-ltb}
+use borrow.Author.Tests.{le-ltb}
 use lib.Dec.{T, eqb, ltb, eqb→eq}
 use lib.ListN.{length, getD, take, drop, length-drop, take-append-drop}
 use Rattle.token.specs.Scan.{scan, keep}
@@ -36,6 +36,7 @@ use Rattle.lexer.specs.Tokens.{Lexeme, lexeme, skipped, lexemes, tokens}
 use Rattle.lexer.specs.Check.{limit, verdict, checked}
 use Rattle.lexer.proofs.Utf8Laws.{Starts, well-left, well-right}
 use Rattle.lexer.proofs.CutLaws.{hit-fits, cuts-nil, cuts-miss, cuts-hit}
+use Rattle.lexer.proofs.CheckLaws.{fine-fits}
 
 high : ℕ → ℕ → Bool
 high c k = cond (ltb c 128) true (eqb k 58)
@@ -152,13 +153,10 @@ fine-both none none e = (refl, refl)
 -- what the check finds fine is well formed and cut to its end
 pub fine-means : (t : List ℕ) → checked t ≡ C.Fine → (length t ≤ 65536) × WellFormed t × (unrecognized (cuts t) 0 ≡ none)
 unfolding checked limit
-fine-means t e = ⊎-elim long short (lt-or-le 65536 (length t))
-  where
-    long : 65536 < length t → (length t ≤ 65536) × WellFormed t × (unrecognized (cuts t) 0 ≡ none)
-    long h = let z : _≡_ {A = ℕ} 0 1 = cc (rw (lt-ltb 65536 (length t) h) at e) in absurd (omega arith)
-
-    short : length t ≤ 65536 → (length t ≤ 65536) × WellFormed t × (unrecognized (cuts t) 0 ≡ none)
-    short h = let f = fine-both (illFormed t) (unrecognized (cuts t) 0) (rw (le-ltb 65536 (length t) h) at e) in (h, f .0, f .1)
+fine-means t e =
+    let h : length t ≤ 65536 = fine-fits t e in
+    let f = fine-both (illFormed t) (unrecognized (cuts t) 0) (rw (le-ltb 65536 (length t) h) at e) in
+    (h, f .0, f .1)
 
 pub fine-tokens : (t : List ℕ) → Bytes t → checked t ≡ C.Fine → WellTokens (tokens t opening)
 unfolding tokens opening

@@ -1,13 +1,16 @@
 -- What the whole-text check finds. Assumes nothing.
 use mathlib.Core.Path.{_≡_, refl, sym, ap, _∙_}
+use mathlib.Core.Bool.{Bool, true, false, cond}
 use mathlib.Core.List.{List}
 use mathlib.Core.Option.{Option, some, none}
 use Prim.Native.Nat.{ℕ, _<_, _≤_}
-use borrow.Author.Tests.{lt-ltb, le-ltb}
+use borrow.Author.Tests.{lt-ltb, le-ltb, ltb-false}
 use native.Mathlib.Omega.{arith}
+use lib.Dec.{ltb}
 use lib.ListN.{length}
 use Rattle.lexer.specs.declared.Found.{Found}
 use Rattle.lexer.specs.declared.Found.the-variants.{At, Nowhere}
+use Rattle.lexer.specs.declared.Checked.{Checked}
 use Rattle.lexer.specs.declared.Checked.the-variants as C
 use Rattle.lexer.specs.Found.{found}
 use Rattle.lexer.specs.Utf8.{illFormed}
@@ -41,3 +44,17 @@ module _ (t : List ℕ) where
     pub fine : found (illFormed t) ≡ Nowhere → found (unrecognized (cuts t) 0) ≡ Nowhere → checked t ≡ C.Fine
     unfolding checked limit verdict
     fine e f = rw (le-ltb 65536 (length t) h, found-none _ e, found-none _ f)
+
+-- ---- what is not refused for its length is not longer
+
+within : (o : Bool) (n : ℕ) (v r : Checked) → ltb 65536 n ≡ o → cond o C.TooLong v ≡ r → (r ≡ C.TooLong → ⊥) → n ≤ 65536
+within true n v r l e h = absurd (h (sym e))
+within false n v r l e h = ltb-false 65536 n l
+
+pub fine-fits : (t : List ℕ) → checked t ≡ C.Fine → length t ≤ 65536
+unfolding checked limit
+fine-fits t e = within (ltb 65536 (length t)) (length t) _ C.Fine refl e (λ f. let z : _≡_ {A = ℕ} 0 1 = cc in omega arith)
+
+pub unknown-fits : (t : List ℕ) (p : ℕ) → checked t ≡ C.Unrecognized p → length t ≤ 65536
+unfolding checked limit
+unknown-fits t p e = within (ltb 65536 (length t)) (length t) _ (C.Unrecognized p) refl e (λ f. let z : _≡_ {A = ℕ} 0 1 = cc in omega arith)

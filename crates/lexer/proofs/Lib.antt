@@ -11,3 +11,4 @@ pub mod PlaceLaws
 pub mod CheckLaws
 pub mod Cases
 pub mod Ascii
+pub mod NextLaws

@@ -1,8 +1,8 @@
 -- The tokens of a text with their bytes and places, and the next of them. Assumes nothing: these are definitions.
-use Prim.Native.Nat.{ℕ}
+use Prim.Native.Nat.{ℕ, _-_}
 use mathlib.Core.Bool.{Bool, cond, _||_}
 use mathlib.Core.List.{List, [], _∷_}
-use lib.ListN.{drop}
+use lib.ListN.{take, drop}
 use Rattle.token.specs.Code.{is}
 use Rattle.lexer.specs.Cuts.{Cuts, end, stuck, cut, cuts}
 use Rattle.lexer.specs.Location.{pass, between}
@@ -10,6 +10,7 @@ use Rattle.token.specs.declared.Token.{Token}
 use Rattle.token.specs.declared.Token.the-variants as T
 use Rattle.lexer.specs.declared.location.Lexer.{Lexer}
 use Rattle.lexer.specs.declared.location.LOC.{LOC}
+use Rattle.lexer.specs.declared.location.ParserToken.{ParserToken}
 use Rattle.lexer.specs.declared.location.Next.{Next}
 use Rattle.lexer.specs.declared.location.Next.the-variants as N
 
@@ -45,3 +46,7 @@ nextOf (cut k w cs) s =
 
 unfoldable pub next : List ℕ → Lexer → Next
 next t s = nextOf (cuts (drop (s .at) t)) s
+
+-- a token of the code, with the bytes that its place has in the text
+unfoldable pub lexemeOf : List ℕ → ParserToken → Lexeme
+lexemeOf t p = lexeme (p .token) (take (p .loc .end .index - p .loc .start .index) (drop (p .loc .start .index) t)) (p .loc)

@@ -1,0 +1,294 @@
+// Cuts each text of the list on standard input, and compares every token with rico's.
+//
+// The list holds little-endian numbers of 4 bytes. First the count of texts, then for each text:
+//     its length, and its bytes
+//     rico's verdict (0 fine, 21 no UTF-8, 22 no token), and its place
+//     the count of its tokens, and seven numbers for each: the kind, then index, line and column of the start and of the end
+use lexer::Checked;
+use lexer::location::Lexer;
+use lexer::location::Next;
+use lexer::location::ParserToken;
+use lexer::location::Span;
+use libc::STDIN_FILENO;
+use libc::STDOUT_FILENO;
+ghost use mathlib.Core.Path.{_≡_};
+ghost use Prim.Native.Nat.{_+_, _≤_};
+ghost use lib.ListN.{length};
+ghost use Rattle.token.specs.Tables.{classes, trie as nodes};
+ghost use Rattle.replay_tokens.specs.Inside.{Inside, Found};
+
+// The bytes of a token in the list.
+const ROW: usize = 28;
+
+// A text of the list: its bytes from `start` to `end`, its tokens from `rows` to `next`.
+struct Text {
+    start: usize,
+    end: usize,
+    verdict: u32,
+    place: u32,
+    rows: usize,
+    next: usize,
+}
+
+// What stands at a place of the list.
+enum Read {
+    Text(Text),
+    // less than a text
+    Short,
+}
+
+// What the comparison of all texts finds.
+enum Outcome {
+    // how many texts differ
+    Compared(u32),
+    // the list is cut short
+    Short,
+    // bytes are left behind the last text
+    Long,
+}
+
+fn wide(byte: u8) -> u32
+    ensures { λ r. ⌜ r ≤ 255 ⌝ }
+{
+    byte as u32
+}
+
+// The number at an offset.
+fn number(list: &[u8], at: usize) -> u32
+    requires { ⌜ at + 4 ≤ length (now list) ⌝ }
+{
+    let a = wide(list[at]);
+    let b = wide(list[at + 1]);
+    let c = wide(list[at + 2]);
+    let d = wide(list[at + 3]);
+    a + b * 256 + c * 65536 + d * 16777216
+}
+
+// The text at an offset.
+fn text_at(list: &[u8], at: usize) -> Read
+    requires { ⌜ at ≤ length (now list) ⌝ }
+    ensures { λ r. ⌜ Found (length (now (list .entry))) r ⌝ }
+{
+    if list.len() - at < 4 {
+        return Read::Short;
+    }
+    let start = at + 4;
+    let size = number(list, at) as usize;
+    if list.len() - start < size {
+        return Read::Short;
+    }
+    let end = start + size;
+    if list.len() - end < 12 {
+        return Read::Short;
+    }
+    let verdict = number(list, end);
+    let place = number(list, end + 4);
+    let count = number(list, end + 8) as usize;
+    let rows = end + 12;
+    if list.len() - rows < count * ROW {
+        return Read::Short;
+    }
+    Read::Text(Text {
+        start,
+        end,
+        verdict,
+        place,
+        rows,
+        next: rows + count * ROW,
+    })
+}
+
+// Whether index, line and column of a place stand at an offset.
+fn same_span(rows: &[u8], at: usize, span: Span) -> bool
+    requires { ⌜ at + 12 ≤ length (now rows) ⌝ }
+{
+    if number(rows, at) != span.index {
+        return false;
+    }
+    if number(rows, at + 4) != span.line {
+        return false;
+    }
+    number(rows, at + 8) == span.column
+}
+
+// Whether a token stands at an offset.
+fn same_token(rows: &[u8], at: usize, token: ParserToken) -> bool
+    requires { ⌜ at + 28 ≤ length (now rows) ⌝ }
+{
+    let kind = token.token;
+    let loc = token.loc;
+    if number(rows, at) != kind.code() as u32 {
+        return false;
+    }
+    if !same_span(rows, at + 4, loc.start) {
+        return false;
+    }
+    same_span(rows, at + 16, loc.end)
+}
+
+// Whether what follows the last token is what the verdict says.
+fn same_end(next: Next, verdict: u32, place: u32) -> bool {
+    match next {
+        Next::On(_, _) => false,
+        Next::End => verdict == 0,
+        Next::Unrecognized(at) => {
+            if verdict != 22 {
+                return false;
+            }
+            at == place
+        }
+    }
+}
+
+// Whether the tokens of a text are those of the rows, and end as the verdict says.
+fn same_tokens(
+    class: &[u8; 256],
+    trie: &[u8; 512],
+    text: &[u8],
+    rows: &[u8],
+    verdict: u32,
+    place: u32,
+) -> bool
+    requires { ⌜ (now class ≡ classes) × (now trie ≡ nodes) × (length (now text) ≤ 65536) ⌝ }
+{
+    let mut from = Lexer::new();
+    let mut at: usize = 0;
+    while ROW <= rows.len() - at {
+        let next = lexer::next_token(class, trie, text, from);
+        let Next::On(token, behind) = next else {
+            return false;
+        };
+        if !same_token(rows, at, token) {
+            return false;
+        }
+        from = behind;
+        at += ROW;
+    }
+    same_end(lexer::next_token(class, trie, text, from), verdict, place)
+}
+
+// The same with the tables.
+fn same_cuts(text: &[u8], rows: &[u8], verdict: u32, place: u32) -> bool
+    requires { ⌜ length (now text) ≤ 65536 ⌝ }
+{
+    let class = lexer::table::CLASS;
+    let trie = lexer::table::WORDS;
+    same_tokens(&class, &trie, text, rows, verdict, place)
+}
+
+// Whether the check of a text answers as the verdict says, and its tokens are rico's. There are no tokens to compare where it is no UTF-8.
+fn same_text(text: &[u8], rows: &[u8], verdict: u32, place: u32) -> bool {
+    match lexer::check(text) {
+        Checked::Fine => {
+            if verdict != 0 {
+                return false;
+            }
+            same_cuts(text, rows, verdict, place)
+        }
+        Checked::TooLong => false,
+        Checked::IllFormed(at) => {
+            if verdict != 21 {
+                return false;
+            }
+            at == place as usize
+        }
+        Checked::Unrecognized(at) => {
+            if verdict != 22 {
+                return false;
+            }
+            if at != place as usize {
+                return false;
+            }
+            same_cuts(text, rows, verdict, place)
+        }
+    }
+}
+
+// The same of a text of the list.
+fn same_entry(list: &[u8], text: Text) -> bool
+    requires { ⌜ Inside (length (now list)) text ⌝ }
+{
+    let start = text.start;
+    let end = text.end;
+    let rows = text.rows;
+    let next = text.next;
+    same_text(
+        &list[start..end],
+        &list[rows..next],
+        text.verdict,
+        text.place,
+    )
+}
+
+// Writes that a text differs; the first is 0.
+fn write_differing(number: u32) {
+    io::write_all(STDOUT_FILENO, b"text ");
+    io::print_decimal(STDOUT_FILENO, number as u64);
+    io::write_all(STDOUT_FILENO, b" differs\n");
+}
+
+fn write_counts(texts: u32, differing: u32) {
+    io::print_decimal(STDOUT_FILENO, texts as u64);
+    io::write_all(STDOUT_FILENO, b" texts, ");
+    io::print_decimal(STDOUT_FILENO, differing as u64);
+    io::write_all(STDOUT_FILENO, b" differ\n");
+}
+
+// Compares all texts.
+fn compare(list: &[u8], texts: u32) -> Outcome
+    requires { ⌜ 4 ≤ length (now list) ⌝ }
+{
+    let mut at: usize = 4;
+    let mut differing: u32 = 0;
+    let mut i: u32 = 0;
+    while i < texts {
+        let read = text_at(list, at);
+        let Read::Text(text) = read else {
+            return Outcome::Short;
+        };
+        if !same_entry(list, text) {
+            write_differing(i);
+            differing += 1;
+        }
+        at = text.next;
+        i += 1;
+    }
+    if at < list.len() {
+        return Outcome::Long;
+    }
+    Outcome::Compared(differing)
+}
+
+// Compares all texts of the list and says what differs.
+fn compare_list(list: &[u8]) {
+    if list.len() < 4 {
+        io::write_all(STDOUT_FILENO, b"the list ends early\n");
+        return;
+    }
+    let texts = number(list, 0);
+    let outcome = compare(list, texts);
+    match outcome {
+        Outcome::Compared(differing) => {
+            write_counts(texts, differing);
+        }
+        Outcome::Short => {
+            io::write_all(STDOUT_FILENO, b"the list ends early\n");
+        }
+        Outcome::Long => {
+            io::write_all(STDOUT_FILENO, b"the list goes on\n");
+        }
+    }
+}
+
+// A place for the list; of a longer one the end is missing.
+fn space() -> [u8; 524288]
+    ensures { λ r. ⌜ 524288 ≡ length r ⌝ }
+{
+    [0; 524288]
+}
+
+fn main() {
+    let mut list = space();
+    let n = io::read_full(STDIN_FILENO, &mut list);
+    compare_list(&list[..n]);
+}

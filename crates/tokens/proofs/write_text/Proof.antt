@@ -1,0 +1,31 @@
+-- `tokens::write_text` meets its contract: a text that is not refused is short enough for the lexer. Assumes nothing.
+use mathlib.Core.Path.{refl, sym, _∙_}
+use Rattle.token.specs.Tables.{classes, trie}
+use Rattle.lexer.proofs.CheckLaws.{fine-fits}
+use borrow.Author.Needs.{needs}
+use Rattle.tokens.proofs.write_text.Statement.{statement}
+use Rattle.tokens.proofs.write_text.Tie as tie
+
+write-tokens-requires : tie.Need-write-tokens-requires
+unfolding classes trie
+write-tokens-requires c κs =
+    let e = c .before .before in
+    (refl, refl, fine-fits _ (sym (e .before .before .check .ensures) ∙ e .enum-told .given .1))
+
+pub write-text-spec : {M : Type 1} → statement M
+write-text-spec =
+    tie.close
+    (tie.spec
+    (λ c κs. search needs)
+    (λ c. search needs)
+    write-tokens-requires
+    (λ c. search needs)
+    (λ c κs. search needs)
+    (λ c. search needs)
+    (λ c κs. search needs)
+    (λ c. search needs)
+    (λ c κs. search needs)
+    (λ c. search needs)
+    (λ c. search needs)
+    (λ c. search needs)
+    (λ c. search needs))
