@@ -9,6 +9,5 @@ pub mod MarkLaws
 pub mod CutLaws
 pub mod PlaceLaws
 pub mod CheckLaws
-pub mod Cases
 pub mod Ascii
 pub mod NextLaws

@@ -4,4 +4,3 @@ pub mod Cuts
 pub mod Location
 pub mod Tokens
 pub mod Check
-pub mod Edges

@@ -1,0 +1,183 @@
+-- The nodes of document 01's records as trees: kind, flags, range, bytes, owned comments, children in the order they are read. Assumes nothing.
+use mathlib.Core.Bool.{Bool, true, false, cond}
+use mathlib.Core.List.{List, [], _∷_}
+use mathlib.Core.Option.{Option, some, none}
+use Prim.Native.Nat.{ℕ, _+_}
+use Rattle.token.specs.Code.{is}
+use Rattle.token.specs.declared.Token.{Token}
+use Rattle.token.specs.declared.Token.the-variants as T
+use Rattle.lexer.specs.declared.location.LOC.{LOC}
+use Rattle.lexer.specs.Tokens.{Lexeme, lexeme}
+use Rattle.ast.specs.Ast.{
+  FieldType,
+  CommonType,
+  ListType,
+  SetType,
+  MapType,
+  FieldInitialValue,
+  ConstValue,
+  ConstList,
+  ConstMap,
+  Elements,
+  nil,
+  cons,
+  Properties,
+  pnil,
+  pcons,
+  Annotation,
+  annotation,
+  Annotations,
+  absent,
+  annotations,
+  Required,
+  default,
+  required,
+  optional,
+  Field,
+  field,
+  EnumMember,
+  member,
+  Function,
+  function,
+  Structure,
+  Struct,
+  Union,
+  Exception,
+  Definition,
+  Include,
+  CppInclude,
+  Namespace,
+  Const,
+  Typedef,
+  Enum,
+  structure,
+  Service,
+}
+
+mutual
+  pub data Tree : Type 0 where
+    node : ℕ → ℕ → LOC → List ℕ → List Lexeme → Forest → Tree
+
+  pub data Forest : Type 0 where
+    bare : Forest
+    grown : Tree → Forest → Forest
+
+-- a node that is one token
+unfoldable pub leaf : ℕ → Lexeme → Tree
+leaf k (lexeme t w l) = node k 0 l w [] bare
+
+-- a node with children alone
+unfoldable pub inner : ℕ → LOC → Forest → Tree
+inner k l f = node k 0 l [] [] f
+
+unfoldable pub single : Tree → Forest
+single t = grown t bare
+
+unfoldable pub both : Tree → Tree → Forest
+both a b = grown a (single b)
+
+-- the trees of a list, of an optional part, before others
+unfoldable pub each : {A : Type 0} → (A → Tree) → List A → Forest → Forest
+each f [] r = r
+each f (x ∷ xs) r = grown (f x) (each f xs r)
+
+unfoldable pub perhaps : {A : Type 0} → (A → Tree) → Option A → Forest → Forest
+perhaps f none r = r
+perhaps f (some x) r = grown (f x) r
+
+-- 16 name, 17 field id
+unfoldable pub nameTree : Lexeme → Tree
+nameTree t = leaf 16 t
+
+unfoldable pub idTree : Lexeme → Tree
+idTree t = leaf 17 t
+
+-- 18 keyword type (void too), 19 named type, 20 list, 21 set, 22 map
+unfoldable pub typeTree : FieldType → Tree
+typeTree (CommonType (lexeme t w l)) = leaf (cond (is t T.Identifier) 19 18) (lexeme t w l)
+typeTree (ListType l k t) = inner 20 l (single (typeTree t))
+typeTree (SetType l k t) = inner 21 l (single (typeTree t))
+typeTree (MapType l k a b) = inner 22 l (both (typeTree a) (typeTree b))
+
+-- 23 string, 24 integer, 25 double, 26 boolean, 27 hex, 28 name as value
+unfoldable pub valueKind : Token → ℕ
+valueKind t =
+    cond (is t T.StringLiteral) 23
+    (cond (is t T.IntegerLiteral) 24 (cond (is t T.DoubleLiteral) 25 (cond (is t T.BooleanLiteral) 26 (cond (is t T.HexLiteral) 27 28))))
+
+unfoldable pub literalTree : Lexeme → Tree
+literalTree (lexeme t w l) = leaf (valueKind t) (lexeme t w l)
+
+-- 29 list value, 30 map value, 31 property
+unfoldable mutual
+  pub valueTree : FieldInitialValue → Tree
+  valueTree (ConstValue t) = literalTree t
+  valueTree (ConstList l vs) = inner 29 l (elementTrees vs)
+  valueTree (ConstMap l ps) = inner 30 l (propertyTrees ps)
+
+  pub elementTrees : Elements → Forest
+  elementTrees nil = bare
+  elementTrees (cons v vs) = grown (valueTree v) (elementTrees vs)
+
+  pub propertyTrees : Properties → Forest
+  propertyTrees pnil = bare
+  propertyTrees (pcons l k v ps) = grown (inner 31 l (both (valueTree k) (valueTree v))) (propertyTrees ps)
+
+-- 14 annotations, 15 annotation
+unfoldable pub annotationTree : Annotation → Tree
+annotationTree (annotation l n v) = inner 15 l (both (nameTree n) (literalTree v))
+
+unfoldable pub annotationsTree : Annotations → Forest → Forest
+annotationsTree absent r = r
+annotationsTree (annotations l xs) r = grown (inner 14 l (each annotationTree xs bare)) r
+
+-- flags: 1 required, 2 optional; 4 oneway, 8 throws written; 16 a thrown field
+unfoldable pub requiredFlag : Required → ℕ
+requiredFlag default = 0
+requiredFlag required = 1
+requiredFlag optional = 2
+
+-- 12 field, with a further flag
+unfoldable pub fieldTree : ℕ → Field → Tree
+fieldTree f (field l c i r t n v a) =
+    node 12 (requiredFlag r + f) l [] c (perhaps idTree i (grown (typeTree t) (grown (nameTree n) (perhaps valueTree v (annotationsTree a bare)))))
+
+-- 13 enum member
+unfoldable pub memberTree : EnumMember → Tree
+memberTree (member l c n v a) = node 13 0 l [] c (grown (nameTree n) (perhaps literalTree v (annotationsTree a bare)))
+
+-- 11 function
+unfoldable pub onewayFlag : Bool → ℕ
+onewayFlag true = 4
+onewayFlag false = 0
+
+unfoldable pub throwsFlag : Option (List Field) → ℕ
+throwsFlag none = 0
+throwsFlag (some fs) = 8
+
+unfoldable pub throwsTrees : Option (List Field) → Forest → Forest
+throwsTrees none r = r
+throwsTrees (some fs) r = each (fieldTree 16) fs r
+
+unfoldable pub functionTree : Function → Tree
+functionTree (function l c o t n ps th a) =
+    node 11 (onewayFlag o + throwsFlag th) l [] c
+    (grown (typeTree t) (grown (nameTree n) (each (fieldTree 0) ps (throwsTrees th (annotationsTree a bare)))))
+
+-- 7 struct, 8 union, 9 exception
+unfoldable pub structureKind : Structure → ℕ
+structureKind Struct = 7
+structureKind Union = 8
+structureKind Exception = 9
+
+-- 1 include, 2 cpp_include, 3 namespace, 4 const, 5 typedef, 6 enum, 10 service
+unfoldable pub definitionTree : Definition → Tree
+definitionTree (Include l c n) = node 1 0 l [] c (single (nameTree n))
+definitionTree (CppInclude l c n) = node 2 0 l [] c (single (nameTree n))
+definitionTree (Namespace l c s n) = node 3 0 l [] c (both (nameTree s) (nameTree n))
+definitionTree (Const l c t n v) = node 4 0 l [] c (grown (typeTree t) (both (nameTree n) (valueTree v)))
+definitionTree (Typedef l c t n) = node 5 0 l [] c (both (typeTree t) (nameTree n))
+definitionTree (Enum l c n ms a) = node 6 0 l [] c (grown (nameTree n) (each memberTree ms (annotationsTree a bare)))
+definitionTree (structure s l c n fs a) = node (structureKind s) 0 l [] c (grown (nameTree n) (each (fieldTree 0) fs (annotationsTree a bare)))
+definitionTree (Service l c n x fs a) =
+    node 10 0 l [] c (grown (nameTree n) (perhaps nameTree x (each functionTree fs (annotationsTree a bare))))

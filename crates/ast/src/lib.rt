@@ -1,0 +1,1 @@
+// The tree that is read, its nodes and its records.

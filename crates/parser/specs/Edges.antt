@@ -1,0 +1,73 @@
+-- Document 01's starred edges as one table. Assumes nothing: these are definitions.
+use Prim.Native.Nat.{ℕ}
+use Prim.Native.String.{String}
+use mathlib.Core.Path.{_≡_}
+use mathlib.Core.List.{List, [], _∷_}
+use Rattle.token.specs.Regex.{bytes}
+use Rattle.ast.specs.Ast.{Definition}
+use Rattle.ast.specs.Records.{nodeRows, notes}
+use Rattle.parser.specs.Read.{Outcome, read, refused, outcome}
+
+-- a text, and what a reading with room enough answers: number, place and length; or the records of nodes and of comments
+pub data Edge : Type 0 where
+  refuses : String → ℕ → ℕ → ℕ → Edge
+  accepts : String → List (List ℕ) → List (List ℕ) → Edge
+
+abbrev pub Meets : Outcome → List (List ℕ) → List (List ℕ) → Type 0
+Meets (read ds) ns cs = (nodeRows ds ≡ ns) × (notes ds ≡ cs)
+Meets (refused e p n) ns cs = ⊥
+
+abbrev pub Holds : Edge → Type 0
+Holds (refuses s e p n) = outcome (bytes s) ≡ refused e p n
+Holds (accepts s ns cs) = Meets (outcome (bytes s)) ns cs
+
+abbrev pub All : List Edge → Type 0
+All [] = Unit
+All (e ∷ es) = Holds e × All es
+
+abbrev pub edges : List Edge
+edges =
+    -- empty text: accepted, 0 and 0
+    accepts "" [] []
+    -- `;` gives 3 at 0, length 1; `;` and a newline give 1; `;;` is accepted
+    ∷ refuses ";" 3 0 1
+    ∷ refuses ";\n" 1 0 1
+    ∷ accepts ";;" [] []
+    -- `struct A {` gives 3 at 9, length 1; with a newline after it, 1
+    ∷ refuses "struct A {" 3 9 1
+    ∷ refuses "struct A {\n" 1 9 1
+    -- `struct A{required i32 a}`: accepted, flags 0; `struct A{i32 a}`: 8 at 14, length 1
+    ∷ accepts "struct A{required i32 a}"
+    ((7 ∷ 4294967295 ∷ 0 ∷ 0 ∷ 1 ∷ 1 ∷ 24 ∷ 1 ∷ 25 ∷ []) ∷ (16 ∷ 0 ∷ 0 ∷ 7 ∷ 1 ∷ 8 ∷ 8 ∷ 1 ∷ 9 ∷ []) ∷ (12 ∷ 0 ∷ 0 ∷ 9 ∷ 1 ∷ 10 ∷ 23 ∷ 1 ∷ 24 ∷ []) ∷ (18 ∷ 2 ∷ 0 ∷ 18 ∷ 1 ∷ 19 ∷ 21 ∷ 1 ∷ 22 ∷ []) ∷ (16 ∷ 2 ∷ 0 ∷ 22 ∷ 1 ∷ 23 ∷ 23 ∷ 1 ∷ 24 ∷ []) ∷ [])
+    []
+    ∷ refuses "struct A{i32 a}" 8 14 1
+    -- `enum E{A=`: 3 at 8, length 1
+    ∷ refuses "enum E{A=" 3 8 1
+    -- id `-1`: 9 at 9, length 2; 18446744073709551615 passes, one more is 9
+    ∷ refuses "struct A{-1:i32 a}" 9 9 2
+    ∷ accepts "struct A{18446744073709551615:i32 a}"
+    ((7 ∷ 4294967295 ∷ 0 ∷ 0 ∷ 1 ∷ 1 ∷ 36 ∷ 1 ∷ 37 ∷ []) ∷ (16 ∷ 0 ∷ 0 ∷ 7 ∷ 1 ∷ 8 ∷ 8 ∷ 1 ∷ 9 ∷ []) ∷ (12 ∷ 0 ∷ 0 ∷ 9 ∷ 1 ∷ 10 ∷ 35 ∷ 1 ∷ 36 ∷ []) ∷ (17 ∷ 2 ∷ 0 ∷ 9 ∷ 1 ∷ 10 ∷ 29 ∷ 1 ∷ 30 ∷ []) ∷ (18 ∷ 2 ∷ 0 ∷ 30 ∷ 1 ∷ 31 ∷ 33 ∷ 1 ∷ 34 ∷ []) ∷ (16 ∷ 2 ∷ 0 ∷ 34 ∷ 1 ∷ 35 ∷ 35 ∷ 1 ∷ 36 ∷ []) ∷ [])
+    []
+    ∷ refuses "struct A{18446744073709551616:i32 a}" 9 9 20
+    -- `const i32 X=[1/*c*/,2]`: 6 at 19, length 1; `[1,/*c*/2]` passes
+    ∷ refuses "const i32 X=[1/*c*/,2]" 6 19 1
+    ∷ accepts "const i32 X=[1,/*c*/2]"
+    ((4 ∷ 4294967295 ∷ 0 ∷ 0 ∷ 1 ∷ 1 ∷ 22 ∷ 1 ∷ 23 ∷ []) ∷ (18 ∷ 0 ∷ 0 ∷ 6 ∷ 1 ∷ 7 ∷ 9 ∷ 1 ∷ 10 ∷ []) ∷ (16 ∷ 0 ∷ 0 ∷ 10 ∷ 1 ∷ 11 ∷ 11 ∷ 1 ∷ 12 ∷ []) ∷ (29 ∷ 0 ∷ 0 ∷ 12 ∷ 1 ∷ 13 ∷ 22 ∷ 1 ∷ 23 ∷ []) ∷ (24 ∷ 3 ∷ 0 ∷ 13 ∷ 1 ∷ 14 ∷ 14 ∷ 1 ∷ 15 ∷ []) ∷ (24 ∷ 3 ∷ 0 ∷ 20 ∷ 1 ∷ 21 ∷ 21 ∷ 1 ∷ 22 ∷ []) ∷ [])
+    []
+    -- `//a`, newline, `;//b`, newline: 2 at 5, length 3
+    ∷ refuses "//a\n;//b\n" 2 5 3
+    -- `enum E{}@`: 22 at 8
+    ∷ refuses "enum E{}@" 22 8 0
+    -- `\r\n` before `enum E{}`: line 3, column 1
+    ∷ accepts "\r\nenum E{}"
+    ((6 ∷ 4294967295 ∷ 0 ∷ 2 ∷ 3 ∷ 1 ∷ 10 ∷ 3 ∷ 9 ∷ []) ∷ (16 ∷ 0 ∷ 0 ∷ 7 ∷ 3 ∷ 6 ∷ 8 ∷ 3 ∷ 7 ∷ []) ∷ [])
+    []
+    -- `/*\r\n*/enum E{}`: the keyword is on line 2, column 3
+    ∷ accepts "/*\r\n*/enum E{}"
+    ((6 ∷ 4294967295 ∷ 0 ∷ 6 ∷ 2 ∷ 3 ∷ 14 ∷ 2 ∷ 11 ∷ []) ∷ (16 ∷ 0 ∷ 0 ∷ 11 ∷ 2 ∷ 8 ∷ 12 ∷ 2 ∷ 9 ∷ []) ∷ [])
+    ((33 ∷ 0 ∷ 0 ∷ 0 ∷ 1 ∷ 1 ∷ 6 ∷ 2 ∷ 3 ∷ []) ∷ [])
+    -- the listing of `struct A{1:i32 a}`
+    ∷ accepts "struct A{1:i32 a}"
+    ((7 ∷ 4294967295 ∷ 0 ∷ 0 ∷ 1 ∷ 1 ∷ 17 ∷ 1 ∷ 18 ∷ []) ∷ (16 ∷ 0 ∷ 0 ∷ 7 ∷ 1 ∷ 8 ∷ 8 ∷ 1 ∷ 9 ∷ []) ∷ (12 ∷ 0 ∷ 0 ∷ 9 ∷ 1 ∷ 10 ∷ 16 ∷ 1 ∷ 17 ∷ []) ∷ (17 ∷ 2 ∷ 0 ∷ 9 ∷ 1 ∷ 10 ∷ 10 ∷ 1 ∷ 11 ∷ []) ∷ (18 ∷ 2 ∷ 0 ∷ 11 ∷ 1 ∷ 12 ∷ 14 ∷ 1 ∷ 15 ∷ []) ∷ (16 ∷ 2 ∷ 0 ∷ 15 ∷ 1 ∷ 16 ∷ 16 ∷ 1 ∷ 17 ∷ []) ∷ [])
+    []
+    ∷ []

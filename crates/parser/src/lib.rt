@@ -1,0 +1,14 @@
+// From a text to its definitions and both tables.
+
+// What a reading answers: the counts, or document 01's number, place and length.
+pub enum Answer {
+    Accepted {
+        nodes: u32,
+        comments: u32,
+    },
+    Refused {
+        number: u32,
+        place: u32,
+        length: u32,
+    },
+}
