@@ -2,6 +2,7 @@ pub mod Utf8Laws
 pub mod Utf8Cases
 pub mod Arms
 pub mod RunLaws
+pub mod UntilLaws
 pub mod Spins
 pub mod ScanLaws
 pub mod WordLaws

@@ -4,3 +4,4 @@ pub mod Cuts
 pub mod Location
 pub mod Tokens
 pub mod Check
+pub mod Until

@@ -12,6 +12,7 @@ ghost use Rattle.token.specs.Automaton.{State, Reached, longest, opened, quote,
 ghost use Rattle.token.specs.Words.{NoWord, Spelled};
 ghost use Rattle.token.specs.declared.Token.the-variants as T;
 ghost use Rattle.token.specs.declared.Scan.the-variants.{Miss, Hit};
+ghost use Rattle.lexer.specs.Until.{until};
 
 // The classes, in the order of their numbers: the digits are those below E, the letters go on to the dot.
 const E: u8 = 8;
@@ -30,8 +31,6 @@ const SLASH: u8 = 38;
 
 const LINE_FEED: u8 = 39;
 
-const RETURN: u8 = 40;
-
 const DOUBLE_QUOTE: u8 = 41;
 
 const BACKSLASH: u8 = 42;
@@ -43,8 +42,6 @@ const HASH: u8 = 44;
 const SIGN: u8 = 45;
 
 const BLANK: u8 = 59;
-
-const CLASSES: u8 = 60;
 
 // The class of a byte of the text.
 fn class_at(class: &[u8; 256], text: &[u8], i: usize) -> u8
@@ -72,6 +69,36 @@ fn run(class: &[u8; 256], text: &[u8], at: usize, from: u8, to: u8) -> usize
     i
 }
 
+// The first place from `at` on whose byte has a class from `from` on; the end if there is none.
+fn run_above(class: &[u8; 256], text: &[u8], at: usize, from: u8) -> usize
+    requires { ⌜ (now class ≡ classes) × (at ≤ length (now text)) ⌝ }
+    ensures { λ r. ⌜ r ≡ at + before from 60 (drop at (now (text .entry))) ⌝ }
+{
+    let mut i = at;
+    while i < text.len() {
+        if from <= class[text[i] as usize] {
+            return i;
+        }
+        i += 1;
+    }
+    i
+}
+
+// The first place from `at` on where the byte stands; the end if there is none.
+fn find(text: &[u8], at: usize, byte: u8) -> usize
+    requires { ⌜ at ≤ length (now text) ⌝ }
+    ensures { λ r. ⌜ r ≡ at + until byte (drop at (now (text .entry))) ⌝ }
+{
+    let mut i = at;
+    while i < text.len() {
+        if text[i] == byte {
+            return i;
+        }
+        i += 1;
+    }
+    i
+}
+
 // The number whose exponent's digits are to start at `at`; without one it ends at `end` as `kind`.
 fn exponent_digits(class: &[u8; 256], text: &[u8], at: usize, end: usize, kind: Token) -> Scan
     requires { ⌜ (now class ≡ classes) × Reached (now text) State.exponentSign at (Hit kind end) ⌝ }
@@ -81,7 +108,7 @@ fn exponent_digits(class: &[u8; 256], text: &[u8], at: usize, end: usize, kind: 
         return Scan::Hit(kind, end);
     }
     if class_at(class, text, at) < E {
-        return Scan::Hit(Token::DoubleLiteral, run(class, text, at + 1, E, CLASSES));
+        return Scan::Hit(Token::DoubleLiteral, run_above(class, text, at + 1, E));
     }
     Scan::Hit(kind, end)
 }
@@ -106,7 +133,7 @@ fn fraction_of(class: &[u8; 256], text: &[u8], at: usize) -> Scan
     requires { ⌜ (now class ≡ classes) × Reached (now text) State.fraction at (Hit T.DoubleLiteral at) ⌝ }
     ensures { λ r. ⌜ r ≡ longest (now (text .entry)) ⌝ }
 {
-    let end = run(class, text, at, E, CLASSES);
+    let end = run_above(class, text, at, E);
     if text.len() <= end {
         return Scan::Hit(Token::DoubleLiteral, end);
     }
@@ -121,7 +148,7 @@ fn whole_of(class: &[u8; 256], text: &[u8], at: usize) -> Scan
     requires { ⌜ (now class ≡ classes) × Reached (now text) State.whole at (Hit T.IntegerLiteral at) ⌝ }
     ensures { λ r. ⌜ r ≡ longest (now (text .entry)) ⌝ }
 {
-    let end = run(class, text, at, E, CLASSES);
+    let end = run_above(class, text, at, E);
     if text.len() <= end {
         return Scan::Hit(Token::IntegerLiteral, end);
     }
@@ -154,7 +181,7 @@ fn zero_of(class: &[u8; 256], text: &[u8]) -> Scan
         return Scan::Hit(Token::IntegerLiteral, 1);
     }
     if class_at(class, text, 2) < X {
-        return Scan::Hit(Token::HexLiteral, run(class, text, 3, X, CLASSES));
+        return Scan::Hit(Token::HexLiteral, run_above(class, text, 3, X));
     }
     Scan::Hit(Token::IntegerLiteral, 1)
 }
@@ -243,7 +270,7 @@ fn block_of(class: &[u8; 256], text: &[u8]) -> Scan
 {
     let mut i: usize = 2;
     loop {
-        let j = run(class, text, i, STAR, SLASH);
+        let j = find(text, i, b'*');
         if text.len() <= j {
             return Scan::Miss;
         }
@@ -267,7 +294,7 @@ fn slash_of(class: &[u8; 256], text: &[u8]) -> Scan
     }
     let k = class_at(class, text, 1);
     if k == SLASH {
-        return Scan::Hit(Token::LineComment, run(class, text, 2, LINE_FEED, RETURN));
+        return Scan::Hit(Token::LineComment, find(text, 2, b'\n'));
     }
     if k == STAR {
         return block_of(class, text);
@@ -280,7 +307,7 @@ fn name_of(class: &[u8; 256], text: &[u8], at: usize) -> Scan
     requires { ⌜ (now class ≡ classes) × Reached (now text) State.named at (Hit T.Identifier at) × NoWord (now text) at ⌝ }
     ensures { λ r. ⌜ r ≡ scan (now (text .entry)) ⌝ }
 {
-    let mut i = run(class, text, at, DOT, CLASSES);
+    let mut i = run_above(class, text, at, DOT);
     while i < text.len() {
         if class_at(class, text, i) != DOT {
             return Scan::Hit(Token::Identifier, i);
@@ -295,7 +322,7 @@ fn name_of(class: &[u8; 256], text: &[u8], at: usize) -> Scan
         if DOT <= k {
             return Scan::Hit(Token::Identifier, i);
         }
-        i = run(class, text, i + 2, DOT, CLASSES);
+        i = run_above(class, text, i + 2, DOT);
     }
     Scan::Hit(Token::Identifier, i)
 }
@@ -381,7 +408,7 @@ fn sign_of(class: &[u8; 256], text: &[u8], k: u8) -> Scan
         return string_of(class, text, false);
     }
     if k == HASH {
-        return Scan::Hit(Token::LineComment, run(class, text, 1, LINE_FEED, RETURN));
+        return Scan::Hit(Token::LineComment, find(text, 1, b'\n'));
     }
     if k == SLASH {
         return slash_of(class, text);

@@ -12,7 +12,7 @@ returns : tie.Need-returns
 returns c = sym (reach-end (c .before .before .pre .1) (c .if1 .taken))
 
 returns-2 : tie.Need-returns-2
-returns-2 c = ap (Hit T.DoubleLiteral) (c .run .ensures) ∙ sym (exponent-digit (c .before .before .before .before .before .pre .1) (c .before .before .before .if1 .left) (rw (c .before .before .class-at .ensures) at (c .before .if2 .taken)))
+returns-2 c = ap (Hit T.DoubleLiteral) (c .run-above .ensures) ∙ sym (exponent-digit (c .before .before .before .before .before .pre .1) (c .before .before .before .if1 .left) (rw (c .before .before .class-at .ensures) at (c .before .if2 .taken)))
 
 returns-3 : tie.Need-returns-3
 returns-3 c = sym (exponent-none (c .before .before .before .before .pre .1) (c .before .before .if1 .left) (rw (c .before .class-at .ensures) at (c .if2 .left)))

@@ -6,13 +6,13 @@ use Rattle.lexer.proofs.scan.fraction_of.Statement.{statement}
 use Rattle.lexer.proofs.scan.fraction_of.Tie as tie
 
 returns : tie.Need-returns
-returns c = sym (fraction-end (c .before .before .before .pre .1) (c .before .run .result) (c .before .run .ensures) (c .if1 .taken))
+returns c = sym (fraction-end (c .before .before .before .pre .1) (c .before .run-above .result) (c .before .run-above .ensures) (c .if1 .taken))
 
 exponent-of-requires : tie.Need-exponent-of-requires
-exponent-of-requires c κs = (c .before .before .before .before .before .pre .0, fraction-exponent (c .before .before .before .before .before .pre .1) (c .before .before .before .run .result) (c .before .before .before .run .ensures) (c .before .before .if1 .left) (rw (c .before .class-at .ensures) at (c .if2 .taken)))
+exponent-of-requires c κs = (c .before .before .before .before .before .pre .0, fraction-exponent (c .before .before .before .before .before .pre .1) (c .before .before .before .run-above .result) (c .before .before .before .run-above .ensures) (c .before .before .if1 .left) (rw (c .before .class-at .ensures) at (c .if2 .taken)))
 
 returns-3 : tie.Need-returns-3
-returns-3 c = sym (fraction-stop (c .before .before .before .before .before .pre .1) (c .before .before .before .run .result) (c .before .before .before .run .ensures) (c .before .before .if1 .left) (rw (c .before .class-at .ensures) at (c .if2 .left)))
+returns-3 c = sym (fraction-stop (c .before .before .before .before .before .pre .1) (c .before .before .before .run-above .result) (c .before .before .before .run-above .ensures) (c .before .before .if1 .left) (rw (c .before .class-at .ensures) at (c .if2 .left)))
 
 pub fraction-of-spec : {M : Type 1} → statement M
 fraction-of-spec =

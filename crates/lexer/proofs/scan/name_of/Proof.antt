@@ -20,11 +20,11 @@ Inv-loop class text at i₀ i = Reached text State.named i (Hit T.Identifier i) 
 abbrev μ-loop : tie.MeasureT-loop
 μ-loop class text at i₀ i = length text - i
 
-run-requires : tie.Need-run-requires Inv-loop μ-loop
-run-requires c κs = (c .before .pre .0, c .before .pre .1 .inside)
+run-above-requires : tie.Need-run-above-requires Inv-loop μ-loop
+run-above-requires c κs = (c .before .pre .0, c .before .pre .1 .inside)
 
 loop-holds : tie.Need-loop-holds Inv-loop μ-loop
-loop-holds c = (name-run (c .before .before .pre .1) (c .run .result) (c .run .ensures), omega (arith, c .run .ensures), name-sign (c .before .before .pre .1) (c .run .result) (c .run .ensures))
+loop-holds c = (name-run (c .before .before .pre .1) (c .run-above .result) (c .run-above .ensures), omega (arith, c .run-above .ensures), name-sign (c .before .before .pre .1) (c .run-above .result) (c .run-above .ensures))
 
 class-at-requires : tie.Need-class-at-requires Inv-loop μ-loop
 class-at-requires c κs = (c .before .before .before .before .pre .0, c .loop-test .taken)
@@ -44,14 +44,14 @@ returns-3 c = name-scan (dot-digit (c .before .before .before .before .before .b
 returns-4 : tie.Need-returns-4 Inv-loop μ-loop
 returns-4 c = name-scan (dot-sign (c .before .before .before .before .before .before .before .loop .inv .0) (c .before .before .before .before .before .before .loop-test .taken) (c .before .before .before .before .before .before .before .loop .inv .2 (c .before .before .before .before .before .before .loop-test .taken)) (sym (c .before .before .before .before .before .class-at .ensures) ∙ c .before .before .before .before .if1 .left) (c .before .before .before .if2 .left) (rw (c .before .before .class-at2 .ensures) at (c .if4 .taken))) (c .before .before .before .before .before .before .before .before .before .before .pre .2) (c .before .before .before .before .before .before .before .loop .inv .1)
 
-run-requires-2 : tie.Need-run-requires-2 Inv-loop μ-loop
-run-requires-2 c κs = (c .before .before .before .before .before .before .before .before .before .before .pre .0, dot-on (c .before .before .before .before .before .before .before .loop .inv .0) (c .before .before .before .before .before .before .loop-test .taken) (c .before .before .before .before .before .before .before .loop .inv .2 (c .before .before .before .before .before .before .loop-test .taken)) (sym (c .before .before .before .before .before .class-at .ensures) ∙ c .before .before .before .before .if1 .left) (c .before .before .before .if2 .left) (rw (c .before .before .class-at2 .ensures) at (c .before .if3 .left)) (rw (c .before .before .class-at2 .ensures) at (c .if4 .left)) .inside)
+run-above-requires-2 : tie.Need-run-above-requires-2 Inv-loop μ-loop
+run-above-requires-2 c κs = (c .before .before .before .before .before .before .before .before .before .before .pre .0, dot-on (c .before .before .before .before .before .before .before .loop .inv .0) (c .before .before .before .before .before .before .loop-test .taken) (c .before .before .before .before .before .before .before .loop .inv .2 (c .before .before .before .before .before .before .loop-test .taken)) (sym (c .before .before .before .before .before .class-at .ensures) ∙ c .before .before .before .before .if1 .left) (c .before .before .before .if2 .left) (rw (c .before .before .class-at2 .ensures) at (c .before .if3 .left)) (rw (c .before .before .class-at2 .ensures) at (c .if4 .left)) .inside)
 
 loop-less : tie.Need-loop-less Inv-loop μ-loop
-loop-less c = omega (arith, c .run2 .ensures)
+loop-less c = omega (arith, c .run-above2 .ensures)
 
 loop-again : tie.Need-loop-again Inv-loop μ-loop
-loop-again c = let r = dot-on (c .before .before .before .before .before .before .before .before .loop .inv .0) (c .before .before .before .before .before .before .before .loop-test .taken) (c .before .before .before .before .before .before .before .before .loop .inv .2 (c .before .before .before .before .before .before .before .loop-test .taken)) (sym (c .before .before .before .before .before .before .class-at .ensures) ∙ c .before .before .before .before .before .if1 .left) (c .before .before .before .before .if2 .left) (rw (c .before .before .before .class-at2 .ensures) at (c .before .before .if3 .left)) (rw (c .before .before .before .class-at2 .ensures) at (c .before .if4 .left)) in (name-run r (c .run2 .result) (c .run2 .ensures), omega (arith, c .run2 .ensures), name-sign r (c .run2 .result) (c .run2 .ensures))
+loop-again c = let r = dot-on (c .before .before .before .before .before .before .before .before .loop .inv .0) (c .before .before .before .before .before .before .before .loop-test .taken) (c .before .before .before .before .before .before .before .before .loop .inv .2 (c .before .before .before .before .before .before .before .loop-test .taken)) (sym (c .before .before .before .before .before .before .class-at .ensures) ∙ c .before .before .before .before .before .if1 .left) (c .before .before .before .before .if2 .left) (rw (c .before .before .before .class-at2 .ensures) at (c .before .before .if3 .left)) (rw (c .before .before .before .class-at2 .ensures) at (c .before .if4 .left)) in (name-run r (c .run-above2 .result) (c .run-above2 .ensures), omega (arith, c .run-above2 .ensures), name-sign r (c .run-above2 .result) (c .run-above2 .ensures))
 
 returns-5 : tie.Need-returns-5 Inv-loop μ-loop
 returns-5 c = name-scan (reach-end (c .before .loop .inv .0) (c .loop-test .left)) (c .before .before .before .before .pre .2) (c .before .loop .inv .1)
@@ -62,7 +62,7 @@ name-of-spec =
     (tie.spec
     Inv-loop
     μ-loop
-    run-requires
+    run-above-requires
     loop-holds
     class-at-requires
     returns
@@ -73,7 +73,7 @@ name-of-spec =
     returns-3
     returns-4
     (λ c. search needs)
-    run-requires-2
+    run-above-requires-2
     loop-less
     loop-again
     returns-5)

@@ -4,6 +4,7 @@ use mathlib.Core.Bool.{true, false}
 use borrow.Author.Tests.{ne-eqb}
 use Rattle.token.specs.declared.Token.the-variants as T
 use Rattle.token.specs.declared.Scan.the-variants.{Miss, Hit}
+use Rattle.lexer.proofs.UntilLaws.{line-end}
 use Rattle.lexer.proofs.ScanLaws.{first-blank, first-quote, first-hash, first-slash, first-sign, first-dot, comment-done}
 use Rattle.lexer.proofs.MarkLaws.{mark-done}
 use borrow.Author.Needs.{needs}
@@ -20,7 +21,9 @@ string-of-requires-2 : tie.Need-string-of-requires-2
 string-of-requires-2 c κs = (c .before .before .before .before .pre .0, first-quote (c .before .before .before .before .pre .4) (c .before .before .before .before .pre .1) false (sym (c .before .before .before .before .pre .2) ∙ c .if3 .taken))
 
 returns-4 : tie.Need-returns-4
-returns-4 c = ap (Hit T.LineComment) (c .run2 .ensures) ∙ sym (comment-done (first-hash (c .before .before .before .before .before .before .pre .4) (c .before .before .before .before .before .before .pre .1) (sym (c .before .before .before .before .before .before .pre .2) ∙ c .before .if4 .taken)))
+returns-4 c =
+    let r = first-hash (c .before .before .before .before .before .before .pre .4) (c .before .before .before .before .before .before .pre .1) (sym (c .before .before .before .before .before .before .pre .2) ∙ c .before .if4 .taken) in
+    ap (Hit T.LineComment) (c .find .ensures ∙ line-end r) ∙ sym (comment-done r)
 
 slash-of-requires : tie.Need-slash-of-requires
 slash-of-requires c κs = (c .before .before .before .before .before .before .pre .0, first-slash (c .before .before .before .before .before .before .pre .4) (c .before .before .before .before .before .before .pre .1) (sym (c .before .before .before .before .before .before .pre .2) ∙ c .if5 .taken))

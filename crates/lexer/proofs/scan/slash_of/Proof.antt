@@ -3,6 +3,7 @@ use mathlib.Core.Path.{_≡_, refl, sym, ap, _∙_}
 use Rattle.token.specs.declared.Token.the-variants as T
 use Rattle.token.specs.declared.Scan.the-variants.{Miss, Hit}
 use Rattle.token.proofs.Reach.{reach-end}
+use Rattle.lexer.proofs.UntilLaws.{line-end}
 use Rattle.lexer.proofs.ScanLaws.{slash-slash, slash-star, slash-stop, comment-done}
 use borrow.Author.Needs.{needs}
 use Rattle.lexer.proofs.scan.slash_of.Statement.{statement}
@@ -12,7 +13,9 @@ returns : tie.Need-returns
 returns c = sym (reach-end (c .before .before .pre .1) (c .if1 .taken))
 
 returns-2 : tie.Need-returns-2
-returns-2 c = ap (Hit T.LineComment) (c .run .ensures) ∙ sym (comment-done (slash-slash (c .before .before .before .before .before .pre .1) (c .before .before .before .if1 .left) (sym (c .before .before .class-at .ensures) ∙ c .before .if2 .taken)))
+returns-2 c =
+    let r = slash-slash (c .before .before .before .before .before .pre .1) (c .before .before .before .if1 .left) (sym (c .before .before .class-at .ensures) ∙ c .before .if2 .taken) in
+    ap (Hit T.LineComment) (c .find .ensures ∙ line-end r) ∙ sym (comment-done r)
 
 block-of-requires : tie.Need-block-of-requires
 block-of-requires c κs = (c .before .before .before .before .before .pre .0, slash-star (c .before .before .before .before .before .pre .1) (c .before .before .before .if1 .left) (sym (c .before .before .class-at .ensures) ∙ c .if3 .taken))

@@ -21,7 +21,7 @@ returns-4 : tie.Need-returns-4
 returns-4 c = sym (hex-end (c .before .before .before .before .before .before .pre .1) (c .before .before .before .before .if1 .left) (rw (c .before .before .before .class-at .ensures) at (c .before .before .if2 .left)) (rw (c .before .before .before .class-at .ensures) at (c .before .if3 .left)) (c .if4 .taken))
 
 returns-5 : tie.Need-returns-5
-returns-5 c = ap (Hit T.HexLiteral) (c .run .ensures) ∙ sym (hex-digit (c .before .before .before .before .before .before .before .before .before .pre .1) (c .before .before .before .before .before .before .before .if1 .left) (rw (c .before .before .before .before .before .before .class-at .ensures) at (c .before .before .before .before .before .if2 .left)) (rw (c .before .before .before .before .before .before .class-at .ensures) at (c .before .before .before .before .if3 .left)) (c .before .before .before .if4 .left) (rw (c .before .before .class-at2 .ensures) at (c .before .if5 .taken)))
+returns-5 c = ap (Hit T.HexLiteral) (c .run-above .ensures) ∙ sym (hex-digit (c .before .before .before .before .before .before .before .before .before .pre .1) (c .before .before .before .before .before .before .before .if1 .left) (rw (c .before .before .before .before .before .before .class-at .ensures) at (c .before .before .before .before .before .if2 .left)) (rw (c .before .before .before .before .before .before .class-at .ensures) at (c .before .before .before .before .if3 .left)) (c .before .before .before .if4 .left) (rw (c .before .before .class-at2 .ensures) at (c .before .if5 .taken)))
 
 returns-6 : tie.Need-returns-6
 returns-6 c = sym (hex-none (c .before .before .before .before .before .before .before .before .pre .1) (c .before .before .before .before .before .before .if1 .left) (rw (c .before .before .before .before .before .class-at .ensures) at (c .before .before .before .before .if2 .left)) (rw (c .before .before .before .before .before .class-at .ensures) at (c .before .before .before .if3 .left)) (c .before .before .if4 .left) (rw (c .before .class-at2 .ensures) at (c .if5 .left)))
