@@ -1,0 +1,1 @@
+// Demand 3: any list of readings and printings of one file.

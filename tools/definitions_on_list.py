@@ -1,0 +1,102 @@
+#!/usr/bin/env python3
+"""Computes the definitions of reading and printing on the texts of oracle/answers.list and holds them to rico's answers.
+
+usage: tools/definitions_on_list.py [LONGEST [EVERY]]
+LONGEST: texts up to so many bytes (default 60); EVERY: each so-many-th of them (default 20).
+Each text becomes a theorem by computation, in a copy of the crates under target/definitions: records, comments and refusals against
+parser/specs/Read, prints at 0, 2 and 8 against writer/specs/Print. ASCII texts only. It is slow (about a tenth of a second a theorem) and no part of the gate."""
+import os
+import re
+import shutil
+import struct
+import subprocess
+import sys
+
+longest = int(sys.argv[1]) if len(sys.argv) > 1 else 60
+every = int(sys.argv[2]) if len(sys.argv) > 2 else 20
+data = open("oracle/answers.list", "rb").read()
+at = 0
+
+
+def number():
+    global at
+    at += 4
+    return struct.unpack_from("<I", data, at - 4)[0]
+
+
+def part(n):
+    global at
+    at += n
+    return data[at - n : at]
+
+
+def case():
+    text = part(number())
+    refusal = [number(), number(), number()]
+    if refusal[0]:
+        return text, refusal, None, None, None
+    nodes, comments = number(), number()
+    rows = [[number() for _ in range(9)] for _ in range(nodes + comments)]
+    return text, None, rows[:nodes], rows[nodes:], [part(number()) for _ in range(3)]
+
+
+def quoted(text):
+    special = {'"': '\\"', "\\": "\\\\", "\n": "\\n", "\r": "\\r", "\t": "\\t"}
+    return '"' + "".join(special.get(c, c if c >= " " else "\\u{%x}" % ord(c)) for c in text.decode()) + '"'
+
+
+def listed(xs, show=str):
+    return "(" + " ∷ ".join(map(show, xs)) + " ∷ [])" if xs else "[]"
+
+
+def run(crate):
+    log = subprocess.run(["rt", "dev", crate], cwd="target/definitions", capture_output=True, text=True)
+    wrong = [line for line in (log.stdout + log.stderr).split("\n") if ": error" in line]
+    print(f"{crate}: {len(wrong)} wrong, exit {log.returncode}")
+    for line in wrong[:10]:
+        print(line[:300])
+    return log.returncode
+
+
+cases = [c for c in (case() for _ in range(number())) if len(c[0]) <= longest and all(b < 127 for b in c[0])][::every]
+shutil.rmtree("target/definitions", ignore_errors=True)
+os.makedirs("target/definitions")
+shutil.copytree("crates", "target/definitions/crates", symlinks=True)
+shutil.copy("crates.txt", "target/definitions/crates.txt")
+
+
+def module(crate, source, head, theorems):
+    """Theorems in files of 200, declared in place of the crate's own proofs."""
+    folder = f"target/definitions/crates/{crate}/proofs"
+    names = []
+    for i in range(0, len(theorems), 200):
+        names.append(f"List{i // 200}")
+        open(f"{folder}/{names[-1]}.antt", "w").write(head + "\n" + "\n".join(theorems[i : i + 200]))
+    os.remove(f"{folder}/Cases.antt")
+    open(f"{folder}/Lib.antt", "w").write("".join(f"pub mod {n}\n" for n in names))
+
+
+source = open("crates/parser/proofs/Cases.antt").read()
+head, rest = source.split("pub edges-hold : All edges\n")
+opened = rest[: rest.index("edges-hold =")]
+head = re.sub(r"Edges\.\{[^}]*\}", "Edges.{Holds, refuses, accepts}", head)
+head = head.replace("use mathlib.Core.Path.{_≡_, refl}", "use mathlib.Core.Path.{_≡_, refl}\nuse mathlib.Core.List.{List, [], _∷_}")
+theorems = []
+for i, (text, refusal, nodes, comments, _) in enumerate(cases):
+    edge = f"refuses {quoted(text)} {' '.join(map(str, refusal))}" if refusal else f"accepts {quoted(text)} {listed(nodes, listed)} {listed(comments, listed)}"
+    theorems.append(f"c{i} : Holds ({edge})\n{opened}c{i} = {'refl' if refusal else '(refl, refl)'}\n")
+module("parser", source, head, theorems)
+print(f"{len(cases)} texts, {sum(c[1] is None for c in cases)} of them accepted")
+bad = run("parser")
+
+source = open("crates/writer/proofs/Cases.antt").read()
+head = source[: source.index("-- a printing of the text with room")]
+opened = re.search(r"unfolding (?:.|\n)*?(?=\nedge n =)", source).group(0)
+head += f"unfoldable whole : Prim.Native.String.String → ℕ → List ℕ\n{opened}\nwhole s i = W.printOf i (W.outcomeAt i (checked (bytes s)) (bytes s))\n"
+prints = [(c[0], n, p) for c in cases if c[4] for n, p in zip((0, 2, 8), c[4])]
+theorems = [f"p{i} : whole {quoted(t)} {n} ≡ bytes {quoted(p)}\nunfolding whole bytes\np{i} = refl\n" for i, (t, n, p) in enumerate(prints)]
+shutil.rmtree("target/definitions/crates/parser")
+shutil.copytree("crates/parser", "target/definitions/crates/parser")
+module("writer", source, head, theorems)
+print(f"{len(prints)} prints")
+sys.exit(bad or run("writer"))
