@@ -1,3 +1,4 @@
 pub mod Ast
 pub mod Tree
 pub mod Records
+pub mod Drop

@@ -1,0 +1,43 @@
+-- What rico's write_param drops of parameters and thrown fields: comments, requiredness, annotations. Assumes nothing: these are definitions.
+use mathlib.Core.List.{List, [], map}
+use mathlib.Core.Option.{Option, some, none}
+use Rattle.ast.specs.Ast.{
+  Annotations,
+  absent,
+  Required,
+  default,
+  Field,
+  field,
+  Function,
+  function,
+  Structure,
+  Definition,
+  Include,
+  CppInclude,
+  Namespace,
+  Const,
+  Typedef,
+  Enum,
+  structure,
+  Service,
+}
+
+unfoldable pub dropField : Field → Field
+dropField (field l c i r t n v a) = field l [] i default t n v absent
+
+unfoldable pub dropThrows : Option (List Field) → Option (List Field)
+dropThrows none = none
+dropThrows (some fs) = some (map dropField fs)
+
+unfoldable pub dropFunction : Function → Function
+dropFunction (function l c o t n ps th a) = function l c o t n (map dropField ps) (dropThrows th) a
+
+unfoldable pub dropParams : Definition → Definition
+dropParams (Include l c n) = Include l c n
+dropParams (CppInclude l c n) = CppInclude l c n
+dropParams (Namespace l c s n) = Namespace l c s n
+dropParams (Const l c t n v) = Const l c t n v
+dropParams (Typedef l c t n) = Typedef l c t n
+dropParams (Enum l c n ms a) = Enum l c n ms a
+dropParams (structure s l c n fs a) = structure s l c n fs a
+dropParams (Service l c n x fs a) = Service l c n x (map dropFunction fs) a
