@@ -1,6 +1,6 @@
 -- What rico's write_param drops of parameters and thrown fields: comments, requiredness, annotations. Assumes nothing: these are definitions.
-use mathlib.Core.List.{List, [], map}
-use mathlib.Core.Option.{Option, some, none}
+use mathlib.Core.List.{List, []}
+use Rattle.ast.specs.Lists.{maps, opt}
 use Rattle.ast.specs.Ast.{
   Annotations,
   absent,
@@ -25,12 +25,8 @@ use Rattle.ast.specs.Ast.{
 unfoldable pub dropField : Field → Field
 dropField (field l c i r t n v a) = field l [] i default t n v absent
 
-unfoldable pub dropThrows : Option (List Field) → Option (List Field)
-dropThrows none = none
-dropThrows (some fs) = some (map dropField fs)
-
 unfoldable pub dropFunction : Function → Function
-dropFunction (function l c o t n ps th a) = function l c o t n (map dropField ps) (dropThrows th) a
+dropFunction (function l c o t n ps th a) = function l c o t n (maps dropField ps) (opt (maps dropField) th) a
 
 unfoldable pub dropParams : Definition → Definition
 dropParams (Include l c n) = Include l c n
@@ -40,4 +36,4 @@ dropParams (Const l c t n v) = Const l c t n v
 dropParams (Typedef l c t n) = Typedef l c t n
 dropParams (Enum l c n ms a) = Enum l c n ms a
 dropParams (structure s l c n fs a) = structure s l c n fs a
-dropParams (Service l c n x fs a) = Service l c n x (map dropFunction fs) a
+dropParams (Service l c n x fs a) = Service l c n x (maps dropFunction fs) a

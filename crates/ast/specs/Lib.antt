@@ -1,4 +1,5 @@
 pub mod Ast
 pub mod Tree
 pub mod Records
+pub mod Lists
 pub mod Drop

@@ -1,11 +1,12 @@
 -- When the definitions of two files agree, in document 01's words ("Printing"). Assumes nothing: these are definitions.
 use mathlib.Core.Path.{_≡_}
 use mathlib.Core.Bool.{Bool, cond, _||_, _&&_}
-use mathlib.Core.List.{List, [], _∷_, map}
+use mathlib.Core.List.{List, [], _∷_}
 use Prim.Native.Nat.{ℕ}
 use lib.Dec.{eqb, leb}
 use Rattle.lexer.specs.Tokens.{Lexeme, lexeme}
 use Rattle.ast.specs.Ast.{Definition}
+use Rattle.ast.specs.Lists.{maps}
 use Rattle.ast.specs.Drop.{dropParams}
 use Rattle.ast.specs.Tree.{Tree, node, Forest, bare, grown}
 use Rattle.ast.specs.Records.{forest}
@@ -28,11 +29,11 @@ noteBytes (lexeme k w l) = w
 
 unfoldable mutual
   pub shapeOf : Tree → Shape
-  shapeOf (node k f l w c ts) = shape k f (cond (bytesCount k) w []) (map noteBytes c) (shapesOf ts)
+  shapeOf (node k f l w c ts) = shape k f (cond (bytesCount k) w []) (maps noteBytes c) (shapesOf ts)
 
   pub shapesOf : Forest → Shapes
   shapesOf bare = no-shape
   shapesOf (grown t ts) = and-shape (shapeOf t) (shapesOf ts)
 
 abbrev pub Agree : List Definition → List Definition → Type 0
-Agree ds es = shapesOf (forest (map dropParams ds)) ≡ shapesOf (forest (map dropParams es))
+Agree ds es = shapesOf (forest (maps dropParams ds)) ≡ shapesOf (forest (maps dropParams es))

@@ -1,1 +1,5 @@
 pub mod Cases
+pub mod Same
+pub mod Wf
+pub mod Sure
+pub mod Ended

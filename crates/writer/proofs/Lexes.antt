@@ -42,35 +42,8 @@ use Rattle.lexer.specs.Check.{limit, verdict, checked}
 use Rattle.lexer.proofs.CutLaws.{cuts-nil, cuts-hit}
 use Rattle.lexer.proofs.Utf8Laws.{well-join, well-ascii, Ascii}
 use Rattle.writer.specs.Print.{Piece, bytesOf}
-use Rattle.writer.proofs.Toks.{
-  nowhere,
-  bareL,
-  bares,
-  toks,
-  Blanks,
-  bnil,
-  bspace,
-  bline,
-  Mark,
-  left-brace,
-  right-brace,
-  left-bracket,
-  right-bracket,
-  left-angle,
-  right-angle,
-  left-paren,
-  right-paren,
-  colon,
-  comma,
-  equals,
-  Good,
-  Sep,
-  snil,
-  sgap,
-  smark,
-  sword,
-  snote,
-}
+use Rattle.ast.proofs.Forget.{nowhere, bareL, bares}
+use Rattle.writer.proofs.Toks.{toks, Blanks, bnil, bspace, bline, Mark, left-brace, right-brace, left-bracket, right-bracket, left-angle, right-angle, left-paren, right-paren, colon, comma, equals, Good, Sep, snil, sgap, smark, sword, snote}
 
 -- ---- places decide nothing
 

@@ -13,22 +13,10 @@ use Rattle.token.specs.Breaks.{Stops, Bytes}
 use Rattle.token.specs.declared.Token.{Token}
 use Rattle.token.specs.declared.Token.the-variants as T
 use Rattle.token.specs.declared.Scan.the-variants.{Hit}
-use Rattle.lexer.specs.declared.location.LOC.{LOC}
 use Rattle.lexer.specs.Tokens.{Lexeme, lexeme, skipped}
 use Rattle.lexer.specs.Utf8.{WellFormed}
+use Rattle.ast.proofs.Forget.{nowhere}
 use Rattle.writer.specs.Print.{Piece, gap, mark, word, note, bytesOf}
-
--- ---- places forgotten
-
-unfoldable pub nowhere : LOC
-nowhere = record { start = record { line = 0; column = 0; index = 0 }; end = record { line = 0; column = 0; index = 0 } }
-
-unfoldable pub bareL : Lexeme → Lexeme
-bareL (lexeme k w l) = lexeme k w nowhere
-
-unfoldable pub bares : List Lexeme → List Lexeme
-bares [] = []
-bares (t ∷ ts) = bareL t ∷ bares ts
 
 -- ---- the tokens of the pieces
 

@@ -1,0 +1,137 @@
+-- Where the last token does not end at offset 1, places decide nothing of a document either; and a document that is accepted is such. Assumes nothing.
+use mathlib.Core.Path.{_≡_, refl, ap, sym, _∙_}
+use mathlib.Core.Bool.{Bool, true, false}
+use mathlib.Core.List.{List, [], _∷_}
+use Prim.Native.Nat.{ℕ, suc, zero}
+use lib.Dec.{eqb}
+use Rattle.token.specs.declared.Token.{Token}
+use Rattle.lexer.specs.declared.location.LOC.{LOC}
+use Rattle.lexer.specs.Tokens.{Lexeme, lexeme}
+use Rattle.ast.specs.Ast.{Definition}
+use Rattle.ast.proofs.Forget.{nowhere, bareL, bares, forget}
+use Rattle.parser.specs.Steps.{place, St, pos, Res, ok, P, bind, test, loop, many}
+use Rattle.parser.specs.Definitions as D
+use Rattle.parser.specs.Definitions.{parseDefinition, documentEnd, parseDocument}
+use Rattle.parser.proofs.Same.{bareS, bareR, ended, endedDocument, sameDocument, document-same}
+use Rattle.parser.proofs.Wf.{All, anil, acons}
+use Rattle.parser.proofs.Sure.{
+  final,
+  GoodL,
+  GoodS,
+  good,
+  Sure,
+  sure,
+  refused,
+  sure-ok,
+  bind-s,
+  test-s,
+  fail-s,
+  separator-s,
+  comments-s,
+  document-end-s,
+  definition-s,
+}
+
+-- nothing is asked of the tokens
+abbrev Free : Token → List ℕ → Type 0
+Free k w = Unit {0}
+
+free : (ts : List Lexeme) → All (GoodL Free) ts
+free [] = anil
+free (t ∷ ts) = acons tt (free ts)
+
+-- a last token that does not end at offset 1
+abbrev pub Far : LOC → Type 0
+Far l = eqb (l .end .index) 1 ≡ false
+
+-- ---- where the last token is far, `over` tests for emptiness
+
+bind-eq : {A B : Type 0} {U : A → Type 0} {m : Res A} {k j : A → P B} →
+    Sure Free Far U m → ((a : A) (s : St) → GoodS Free Far s → k a s ≡ j a s) → bind m k ≡ bind m j
+unfolding bind
+bind-eq (sure {a = a} {s = s} h g) f = f a s g
+bind-eq refused f = refl
+
+test-eq : {A : Type 0} (b : Bool) (p q r : P A) (s : St) → q s ≡ r s → test b p q s ≡ test b p r s
+unfolding test
+test-eq true p q r s e = refl
+test-eq false p q r s e = e
+
+over-ended : {s : St} → GoodS Free Far s → D.over s ≡ ended s
+unfolding D.over ended test final
+over-ended (good c anil z) = rw z
+over-ended (good c (acons h hs) z) = refl
+
+end-ended : {s : St} → GoodS Free Far s → documentEnd s ≡ endedDocument s
+unfolding documentEnd endedDocument
+end-ended g =
+    bind-eq (separator-s Free Far g) λ u s g. bind-eq (comments-s Free Far g) λ u s g. bind-eq (separator-s Free Far g) λ u s g. over-ended g
+
+loop-ended : (n : ℕ) {s : St} → GoodS Free Far s → loop [] _∷_ documentEnd parseDefinition n s ≡ loop [] _∷_ endedDocument parseDefinition n s
+unfolding loop
+loop-ended zero g = refl
+loop-ended (suc n) {s} g =
+    rw (← end-ended g)
+    (bind-eq (document-end-s Free Far s g) λ b s g. test-eq b _ _ _ s
+    (bind-eq (definition-s Free Far s g) λ a s g. ap (λ (m : Res (List Definition)). bind m (λ x s. ok (a ∷ x) s)) (loop-ended n g)))
+
+module _ (l : LOC) (ts : List Lexeme) (far : Far (final l ts)) where
+  pub document-ended : parseDocument (pos l [] ts) ≡ sameDocument (pos l [] ts)
+  unfolding parseDocument sameDocument many
+  document-ended = loop-ended 65537 (good anil (free ts) far)
+
+-- ---- bare tokens are far
+
+final-bare : (ts : List Lexeme) → final nowhere (bares ts) ≡ nowhere
+unfolding final bares bareL place
+final-bare [] = refl
+final-bare (lexeme k w l ∷ ts) = final-bare ts
+
+bare-far : (ts : List Lexeme) → Far (final nowhere (bares ts))
+unfolding nowhere
+bare-far ts = rw final-bare
+
+-- the bare tokens read as the bare document
+module _ (l : LOC) (ts : List Lexeme) (far : Far (final l ts)) where
+  pub parse-same : parseDocument (bareS (pos l [] ts)) ≡ bareR forget (parseDocument (pos l [] ts))
+  unfolding bareS bares
+  parse-same =
+      document-ended nowhere (bares ts) (bare-far ts) ∙ document-same (pos l [] ts) ∙ ap (bareR forget) (sym (document-ended l ts far))
+
+-- ---- what is accepted is far
+
+never : (l : LOC) → false ≡ true → Far l
+never l u = cc
+
+module _ (f : LOC) where
+  abbrev At : LOC → Type 0
+  At l = l ≡ f
+
+  over-far : {s : St} → GoodS Free At s → Sure Free At (λ b. b ≡ true → Far f) (D.over s)
+  unfolding D.over final
+  over-far (good {l = l} {c = d} c anil z) =
+      test-s Free At _ _ _ (pos l d []) (λ e. fail-s Free At 3 (pos l d [])) (λ e. sure (λ u. rw z at e) (good c anil z))
+  over-far (good c (acons h hs) z) = sure (never f) (good c (acons h hs) z)
+
+  end-far : {s : St} → GoodS Free At s → Sure Free At (λ b. b ≡ true → Far f) (documentEnd s)
+  unfolding documentEnd
+  end-far g =
+      bind-s Free At (separator-s Free At g) λ u s v g. bind-s Free At (comments-s Free At g) λ u s v g.
+      bind-s Free At (separator-s Free At g) λ u s v g. over-far g
+
+  loop-far : (n : ℕ) {s : St} → GoodS Free At s → Sure Free At (λ x. Far f) (loop [] _∷_ documentEnd parseDefinition n s)
+  unfolding loop
+  loop-far zero {s} g = fail-s Free At 3 s
+  loop-far (suc n) g =
+      bind-s Free At (end-far g) λ b s u g. test-s Free At b _ _ s (λ h. sure (u h) g)
+      (λ h. bind-s Free At (definition-s Free At s g) λ a s y g. bind-s Free At (loop-far n g) λ x s hx g. sure hx g)
+
+module _ (l : LOC) (ts : List Lexeme) (ds : List Definition) (s : St) (e : parseDocument (pos l [] ts) ≡ ok ds s) where
+  pub accepted-far : Far (final l ts)
+  unfolding parseDocument many
+  accepted-far = sure-ok Free (At (final l ts)) (rw e at (loop-far (final l ts) 65537 (good anil (free ts) refl)))
+
+  -- what is accepted is accepted without its places
+  pub accepted-same : parseDocument (bareS (pos l [] ts)) ≡ ok (forget ds) (bareS s)
+  unfolding bareR
+  accepted-same = parse-same l ts accepted-far ∙ ap (bareR forget) e
