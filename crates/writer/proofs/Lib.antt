@@ -1,3 +1,4 @@
 pub mod Cases
 pub mod Toks
 pub mod Lexes
+pub mod Apart
