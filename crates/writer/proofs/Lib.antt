@@ -2,3 +2,4 @@ pub mod Cases
 pub mod Toks
 pub mod Lexes
 pub mod Apart
+pub mod Back
