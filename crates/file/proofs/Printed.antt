@@ -1,0 +1,85 @@
+-- The print of a text that is accepted and numbered: it passes 20 to 22, and its tokens, without their places, read as the definitions that were printed.
+--     taken-means    what acceptance says of the text
+--     well-read      its definitions are well formed
+--     print-fine     its print passes 20 to 22
+--     print-reads    its print's tokens read back
+-- Assumes nothing.
+use mathlib.Core.Path.{_≡_, refl, sym, ap, _∙_}
+use mathlib.Core.Bool.{Bool, true, false, false≢true}
+use mathlib.Core.List.{List, [], _∷_}
+use Prim.Native.Nat.{ℕ, _<_, _≤_}
+use lib.ListN.{length}
+use Rattle.token.specs.Breaks.{Bytes}
+use Rattle.lexer.specs.declared.Checked.{Checked}
+use Rattle.lexer.specs.declared.Checked.the-variants as C
+use Rattle.lexer.specs.declared.location.LOC.{LOC}
+use Rattle.lexer.specs.Location.{between, opening}
+use Rattle.lexer.specs.Tokens.{tokens}
+use Rattle.lexer.specs.Check.{checked}
+use Rattle.ast.specs.Ast.{Definition}
+use Rattle.ast.specs.Lists.{maps}
+use Rattle.ast.specs.Drop.{dropParams}
+use Rattle.ast.proofs.Forget.{nowhere, bares, forget}
+use Rattle.parser.specs.Steps.{St, pos, Res, ok, no}
+use Rattle.parser.specs.Definitions.{parseDocument}
+use Rattle.parser.specs.Read.{Outcome, read, refused, parsed, answered, outcomeBy, outcome}
+use Rattle.parser.proofs.Wf.{All, anil, NumDefinition, WfDefinition, most}
+use Rattle.parser.proofs.Sure.{Some, Read, GoodS, good, Sure, sure-ok, both, document-s}
+use Rattle.writer.specs.Print.{pieces, printed}
+use Rattle.writer.proofs.Toks.{Good, toks}
+use Rattle.writer.proofs.Lexes.{lexes, fine-print}
+use Rattle.writer.proofs.Apart.{pieces-apart}
+use Rattle.writer.proofs.Back.{document-rt}
+use Rattle.file.proofs.Good.{good-tokens}
+
+-- a text passes 20 to 22, and its tokens read as ds
+pub record Taken (t : List ℕ) (ds : List Definition) : Type 0 where
+  pub fine : checked t ≡ C.Fine
+  pub after : St
+  pub reads : parsed t ≡ ok ds after
+
+accepts : Outcome → Bool
+accepts (read ds) = true
+accepts (refused e p n) = false
+
+definitions : Outcome → List Definition
+definitions (read ds) = ds
+definitions (refused e p n) = []
+
+same : (xs ds : List Definition) → read xs ≡ read ds → xs ≡ ds
+unfolding definitions
+same xs ds e = ap definitions e
+
+taken-by : (c : Checked) (m : Res (List Definition)) (t : List ℕ) (ds : List Definition) → checked t ≡ c → parsed t ≡ m → outcomeBy c t ≡ read ds → Taken t ds
+unfolding outcomeBy answered accepts
+taken-by C.Fine (ok xs s) t ds f p e = record { fine = f; after = s; reads = p ∙ ap (λ (x : List Definition). ok x s) (same xs ds (rw p at e)) }
+taken-by C.Fine (no x l) t ds f p e = absurd (false≢true (ap accepts (rw p at e)))
+taken-by C.TooLong m t ds f p e = absurd (false≢true (ap accepts e))
+taken-by (C.IllFormed x) m t ds f p e = absurd (false≢true (ap accepts e))
+taken-by (C.Unrecognized x) m t ds f p e = absurd (false≢true (ap accepts e))
+
+pub taken-means : (t : List ℕ) (ds : List Definition) → outcome t ≡ read ds → Taken t ds
+unfolding outcome
+taken-means t ds e = taken-by (checked t) (parsed t) t ds refl refl e
+
+abbrev Anywhere : LOC → Type 0
+Anywhere l = Unit {0}
+
+module _ (t : List ℕ) (b : Bytes t) (ds : List Definition) (e : outcome t ≡ read ds) where
+  read-some : Some (Read Good) most ds
+  unfolding parsed
+  read-some =
+      let k = taken-means t ds e in
+      sure-ok Good Anywhere (rw (k .reads) at (document-s Good Anywhere (good {l = between opening opening} anil (good-tokens t b (k .fine)) tt)))
+
+  pub well-read : All NumDefinition ds → All (WfDefinition Good) ds
+  well-read n = both (read-some .each) n
+
+  pub print-fine : All NumDefinition ds → (indent : ℕ) → length (printed indent ds) ≤ 65536 → checked (printed indent ds) ≡ C.Fine
+  unfolding printed
+  print-fine n indent h = fine-print (pieces-apart indent (well-read n)) h
+
+  pub print-reads : All NumDefinition ds → (indent : ℕ) →
+      parseDocument (pos nowhere [] (bares (tokens (printed indent ds) opening))) ≡ ok (forget (maps dropParams ds)) (pos nowhere [] [])
+  unfolding printed
+  print-reads n indent = rw (lexes (pieces indent ds) (pieces-apart indent (well-read n))) (document-rt Good indent (well-read n) (read-some .few))
