@@ -3,6 +3,7 @@
 --     well-read      its definitions are well formed
 --     print-fine     its print passes 20 to 22
 --     print-reads    its print's tokens read back
+--     print-parsed   its print is read, to the same but for places and what parameters drop
 -- Assumes nothing.
 use mathlib.Core.Path.{_≡_, refl, sym, ap, _∙_}
 use mathlib.Core.Bool.{Bool, true, false, false≢true}
@@ -13,7 +14,8 @@ use Rattle.token.specs.Breaks.{Bytes}
 use Rattle.lexer.specs.declared.Checked.{Checked}
 use Rattle.lexer.specs.declared.Checked.the-variants as C
 use Rattle.lexer.specs.declared.location.LOC.{LOC}
-use Rattle.lexer.specs.Location.{between, opening}
+use Rattle.lexer.specs.Location.{between, spanOf, opening}
+use Rattle.lexer.specs.Cuts.{cuts}
 use Rattle.lexer.specs.Tokens.{tokens}
 use Rattle.lexer.specs.Check.{checked}
 use Rattle.ast.specs.Ast.{Definition}
@@ -24,13 +26,16 @@ use Rattle.parser.specs.Steps.{St, pos, Res, ok, no}
 use Rattle.parser.specs.Definitions.{parseDocument}
 use Rattle.parser.specs.Read.{Outcome, read, refused, parsed, answered, outcomeBy, outcome}
 use Rattle.parser.proofs.Wf.{All, anil, NumDefinition, WfDefinition, most}
-use Rattle.parser.proofs.Sure.{Some, Read, GoodS, good, Sure, sure-ok, both, document-s}
+use Rattle.parser.proofs.Sure.{Some, Read, GoodS, good, Sure, final, sure-ok, both, document-s}
+use Rattle.parser.proofs.Same.{bareS, bareR}
+use Rattle.parser.proofs.Ended.{Far, parse-same}
 use Rattle.writer.specs.Print.{pieces, printed}
 use Rattle.writer.proofs.Toks.{Good, toks}
 use Rattle.writer.proofs.Lexes.{lexes, fine-print}
 use Rattle.writer.proofs.Apart.{pieces-apart}
 use Rattle.writer.proofs.Back.{document-rt}
 use Rattle.file.proofs.Good.{good-tokens}
+use Rattle.file.proofs.Last.{print-far}
 
 -- a text passes 20 to 22, and its tokens read as ds
 pub record Taken (t : List ℕ) (ds : List Definition) : Type 0 where
@@ -83,3 +88,12 @@ module _ (t : List ℕ) (b : Bytes t) (ds : List Definition) (e : outcome t ≡ 
       parseDocument (pos nowhere [] (bares (tokens (printed indent ds) opening))) ≡ ok (forget (maps dropParams ds)) (pos nowhere [] [])
   unfolding printed
   print-reads n indent = rw (lexes (pieces indent ds) (pieces-apart indent (well-read n))) (document-rt Good indent (well-read n) (read-some .few))
+
+  print-last : All NumDefinition ds → (indent : ℕ) → Far (final (between opening opening) (tokens (printed indent ds) opening))
+  unfolding tokens opening between spanOf printed
+  print-last n indent =
+      print-far indent ds (cuts (printed indent ds)) opening (between opening opening) refl (lexes (pieces indent ds) (pieces-apart indent (well-read n)))
+
+  pub print-parsed : All NumDefinition ds → (indent : ℕ) → bareR forget (parsed (printed indent ds)) ≡ ok (forget (maps dropParams ds)) (pos nowhere [] [])
+  unfolding parsed bareS bares
+  print-parsed n indent = sym (parse-same (between opening opening) (tokens (printed indent ds) opening) (print-last n indent)) ∙ print-reads n indent

@@ -1080,7 +1080,7 @@ coreDefinition ind (Enum l c n ms a) r = keyword T.Enum "enum" ∷ space ∷ own
 coreDefinition ind (structure s l c n fs a) r = structureKeyword s ∷ space ∷ own n ∷ writeBody (writeField ind) fs a r
 coreDefinition ind (Service l c n x fs a) r = keyword T.Service "service" ∷ space ∷ own n ∷ writeExtends x (writeBody (writeFunction ind) fs a r)
 
-write-definition : (ind : List ℕ) (d : Definition) (r : List Piece) → writeDefinition ind d r ≡ writeComments [] (notesDefinition d) (coreDefinition ind d r)
+pub write-definition : (ind : List ℕ) (d : Definition) (r : List Piece) → writeDefinition ind d r ≡ writeComments [] (notesDefinition d) (coreDefinition ind d r)
 unfolding writeDefinition notesDefinition coreDefinition
 write-definition ind (Include l c n) r = refl
 write-definition ind (CppInclude l c n) r = refl
