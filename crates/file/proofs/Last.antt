@@ -40,6 +40,7 @@ final-on n (cut k w cs) s l h g = go (skipped k) (final-on n cs (pass w k s))
   where
     z : n ≤ pass w k s .at
     z = omega (arith, pass-at w k s, g)
+
     go : (b : Bool) → ((x : LOC) → n ≤ x .end .index → n ≤ pass w k s .at → n ≤ final x (lexemes cs (pass w k s)) .end .index)
         → n ≤ final l (cond b (lexemes cs (pass w k s)) (lexeme k w (between s (pass w k s)) ∷ lexemes cs (pass w k s))) .end .index
     go true ih = ih l h z
@@ -51,6 +52,7 @@ final-long (cut k w cs) s l h = go (skipped k) h (final-long cs (pass w k s))
   where
     far : 2 ≤ length w → 2 ≤ pass w k s .at
     far g = omega (arith, pass-at w k s, g)
+
     go : (b : Bool) → Long (cond b (lexemes cs (pass w k s)) (lexeme k w (between s (pass w k s)) ∷ lexemes cs (pass w k s)))
         → ((x : LOC) → Long (lexemes cs (pass w k s)) → 2 ≤ final x (lexemes cs (pass w k s)) .end .index)
         → 2 ≤ final l (cond b (lexemes cs (pass w k s)) (lexeme k w (between s (pass w k s)) ∷ lexemes cs (pass w k s))) .end .index

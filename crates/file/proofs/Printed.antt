@@ -4,6 +4,7 @@
 --     print-fine     its print passes 20 to 22
 --     print-reads    its print's tokens read back
 --     print-parsed   its print is read, to the same but for places and what parameters drop
+--     print-again    so it is accepted
 -- Assumes nothing.
 use mathlib.Core.Path.{_≡_, refl, sym, ap, _∙_}
 use mathlib.Core.Bool.{Bool, true, false, false≢true}
@@ -97,3 +98,26 @@ module _ (t : List ℕ) (b : Bytes t) (ds : List Definition) (e : outcome t ≡ 
   pub print-parsed : All NumDefinition ds → (indent : ℕ) → bareR forget (parsed (printed indent ds)) ≡ ok (forget (maps dropParams ds)) (pos nowhere [] [])
   unfolding parsed bareS bares
   print-parsed n indent = sym (parse-same (between opening opening) (tokens (printed indent ds) opening) (print-last n indent)) ∙ print-reads n indent
+
+-- a text that is read, to the same as xs but for places
+pub record Again (t : List ℕ) (xs : List Definition) : Type 0 where
+  pub found : List Definition
+  pub taken : outcome t ≡ read found
+  pub same-tree : forget found ≡ forget xs
+
+results : Res (List Definition) → List Definition
+results (ok ds s) = ds
+results (no e l) = []
+
+succeeds : Res (List Definition) → Bool
+succeeds (ok ds s) = true
+succeeds (no e l) = false
+
+again-by : (m : Res (List Definition)) (t : List ℕ) (xs : List Definition) → checked t ≡ C.Fine → parsed t ≡ m → bareR forget m ≡ ok (forget xs) (pos nowhere [] []) → Again t xs
+unfolding bareR outcome outcomeBy answered results succeeds
+again-by (ok ds s) t xs f p e = record { found = ds; taken = rw (f, p) refl; same-tree = ap results e }
+again-by (no x l) t xs f p e = absurd (false≢true (ap succeeds e))
+
+module _ (t : List ℕ) (b : Bytes t) (ds : List Definition) (e : outcome t ≡ read ds) where
+  pub print-again : All NumDefinition ds → (indent : ℕ) → length (printed indent ds) ≤ 65536 → Again (printed indent ds) (maps dropParams ds)
+  print-again n indent h = again-by _ (printed indent ds) (maps dropParams ds) (print-fine t b ds e n indent h) refl (print-parsed t b ds e n indent)
