@@ -4,3 +4,4 @@ pub mod Values
 pub mod Definitions
 pub mod Read
 pub mod Edges
+pub mod Idl
