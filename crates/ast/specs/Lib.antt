@@ -3,3 +3,4 @@ pub mod Tree
 pub mod Records
 pub mod Lists
 pub mod Drop
+pub mod Numbered

@@ -25,7 +25,7 @@ use Rattle.lexer.specs.Check.{checked}
 use Rattle.lexer.proofs.CutLaws.{hit-fits, cuts-nil, cuts-miss, cuts-hit}
 use Rattle.lexer.proofs.Ascii.{Well, well-cuts, fine-means}
 use Rattle.parser.specs.Steps.{kind, bytes}
-use Rattle.parser.proofs.Wf.{All, anil, acons}
+use Rattle.ast.specs.Lists.{All, anil, acons}
 use Rattle.parser.proofs.Sure.{GoodL}
 use Rattle.writer.proofs.Toks.{Good}
 

@@ -20,13 +20,14 @@ use Rattle.lexer.specs.Cuts.{cuts}
 use Rattle.lexer.specs.Tokens.{tokens}
 use Rattle.lexer.specs.Check.{checked}
 use Rattle.ast.specs.Ast.{Definition}
-use Rattle.ast.specs.Lists.{maps}
+use Rattle.ast.specs.Lists.{maps, All, anil}
 use Rattle.ast.specs.Drop.{dropParams}
 use Rattle.ast.proofs.Forget.{nowhere, bares, forget}
 use Rattle.parser.specs.Steps.{St, pos, Res, ok, no}
 use Rattle.parser.specs.Definitions.{parseDocument}
 use Rattle.parser.specs.Read.{Outcome, read, refused, parsed, answered, outcomeBy, outcome}
-use Rattle.parser.proofs.Wf.{All, anil, NumDefinition, WfDefinition, most}
+use Rattle.ast.specs.Numbered.{Numbered}
+use Rattle.parser.proofs.Wf.{WfDefinition, most}
 use Rattle.parser.proofs.Sure.{Some, Read, GoodS, good, Sure, final, sure-ok, both, document-s}
 use Rattle.parser.proofs.Same.{bareS, bareR}
 use Rattle.parser.proofs.Ended.{Far, parse-same}
@@ -78,24 +79,24 @@ module _ (t : List ℕ) (b : Bytes t) (ds : List Definition) (e : outcome t ≡ 
       let k = taken-means t ds e in
       sure-ok Good Anywhere (rw (k .reads) at (document-s Good Anywhere (good {l = between opening opening} anil (good-tokens t b (k .fine)) tt)))
 
-  pub well-read : All NumDefinition ds → All (WfDefinition Good) ds
+  pub well-read : All Numbered ds → All (WfDefinition Good) ds
   well-read n = both (read-some .each) n
 
-  pub print-fine : All NumDefinition ds → (indent : ℕ) → length (printed indent ds) ≤ 65536 → checked (printed indent ds) ≡ C.Fine
+  pub print-fine : All Numbered ds → (indent : ℕ) → length (printed indent ds) ≤ 65536 → checked (printed indent ds) ≡ C.Fine
   unfolding printed
   print-fine n indent h = fine-print (pieces-apart indent (well-read n)) h
 
-  pub print-reads : All NumDefinition ds → (indent : ℕ) →
+  pub print-reads : All Numbered ds → (indent : ℕ) →
       parseDocument (pos nowhere [] (bares (tokens (printed indent ds) opening))) ≡ ok (forget (maps dropParams ds)) (pos nowhere [] [])
   unfolding printed
   print-reads n indent = rw (lexes (pieces indent ds) (pieces-apart indent (well-read n))) (document-rt Good indent (well-read n) (read-some .few))
 
-  print-last : All NumDefinition ds → (indent : ℕ) → Far (final (between opening opening) (tokens (printed indent ds) opening))
+  print-last : All Numbered ds → (indent : ℕ) → Far (final (between opening opening) (tokens (printed indent ds) opening))
   unfolding tokens opening between spanOf printed
   print-last n indent =
       print-far indent ds (cuts (printed indent ds)) opening (between opening opening) refl (lexes (pieces indent ds) (pieces-apart indent (well-read n)))
 
-  pub print-parsed : All NumDefinition ds → (indent : ℕ) → bareR forget (parsed (printed indent ds)) ≡ ok (forget (maps dropParams ds)) (pos nowhere [] [])
+  pub print-parsed : All Numbered ds → (indent : ℕ) → bareR forget (parsed (printed indent ds)) ≡ ok (forget (maps dropParams ds)) (pos nowhere [] [])
   unfolding parsed bareS bares
   print-parsed n indent = sym (parse-same (between opening opening) (tokens (printed indent ds) opening) (print-last n indent)) ∙ print-reads n indent
 
@@ -119,5 +120,5 @@ again-by (ok ds s) t xs f p e = record { found = ds; taken = rw (f, p) refl; sam
 again-by (no x l) t xs f p e = absurd (false≢true (ap succeeds e))
 
 module _ (t : List ℕ) (b : Bytes t) (ds : List Definition) (e : outcome t ≡ read ds) where
-  pub print-again : All NumDefinition ds → (indent : ℕ) → length (printed indent ds) ≤ 65536 → Again (printed indent ds) (maps dropParams ds)
+  pub print-again : All Numbered ds → (indent : ℕ) → length (printed indent ds) ≤ 65536 → Again (printed indent ds) (maps dropParams ds)
   print-again n indent h = again-by _ (printed indent ds) (maps dropParams ds) (print-fine t b ds e n indent h) refl (print-parsed t b ds e n indent)

@@ -13,7 +13,7 @@ use Rattle.parser.specs.Steps.{place, St, pos, Res, ok, P, bind, test, l
 use Rattle.parser.specs.Definitions as D
 use Rattle.parser.specs.Definitions.{parseDefinition, documentEnd, parseDocument}
 use Rattle.parser.proofs.Same.{bareS, bareR, ended, endedDocument, sameDocument, document-same}
-use Rattle.parser.proofs.Wf.{All, anil, acons}
+use Rattle.ast.specs.Lists.{All, anil, acons}
 use Rattle.parser.proofs.Sure.{
   final,
   GoodL,

@@ -112,68 +112,9 @@ use Rattle.parser.specs.Definitions.{
   documentEnd,
   parseDocument,
 }
-use Rattle.parser.proofs.Wf.{
-  All,
-  anil,
-  acons,
-  commentKinds,
-  most,
-  Given,
-  NumField,
-  NumThrows,
-  NumFunction,
-  NumDefinition,
-  Tok,
-  WfType,
-  wcommon,
-  wlist,
-  wset,
-  wmap,
-  WfValue,
-  wleaf,
-  wseq,
-  wdict,
-  WfElements,
-  wnil,
-  wcons,
-  WfProperties,
-  wpnil,
-  wpcons,
-  WfAnnotation,
-  wannotation,
-  WfAnnotations,
-  wabsent,
-  wannotations,
-  WfId,
-  wid,
-  WfDefault,
-  wnone,
-  wsome,
-  WfField,
-  wfield,
-  WfThrows,
-  wquiet,
-  wthrows,
-  WfReturn,
-  wvoid,
-  wtype,
-  WfFunction,
-  wfunction,
-  WfOption,
-  wnothing,
-  wjust,
-  WfMember,
-  wmember,
-  WfDefinition,
-  winclude,
-  wcpp,
-  wnamespace,
-  wconst,
-  wtypedef,
-  wenum,
-  wstructure,
-  wservice,
-}
+use Rattle.ast.specs.Lists.{All, anil, acons}
+use Rattle.ast.specs.Numbered.{HasId, NumberedField, NumberedThrows, NumberedFunction, Numbered}
+use Rattle.parser.proofs.Wf.{commentKinds, most, Tok, WfType, wcommon, wlist, wset, wmap, WfValue, wleaf, wseq, wdict, WfElements, wnil, wcons, WfProperties, wpnil, wpcons, WfAnnotation, wannotation, WfAnnotations, wabsent, wannotations, WfId, wid, WfDefault, wnone, wsome, WfField, wfield, WfThrows, wquiet, wthrows, WfReturn, wvoid, wtype, WfFunction, wfunction, WfOption, wnothing, wjust, WfMember, wmember, WfDefinition, winclude, wcpp, wnamespace, wconst, wtypedef, wenum, wstructure, wservice}
 
 pub append-s : {A : Type 0} {W : A → Type 0} {xs ys : List A} → All W xs → All W ys → All W (xs ++ ys)
 append-s anil g = g
@@ -230,7 +171,7 @@ pub record Some {A : Type 0} (U : A → Type 0) (n : ℕ) (xs : List A) : Type 0
 
 -- a definition whose fields are numbered is well formed
 abbrev pub Read : (Token → List ℕ → Type 0) → Definition → Type 0
-Read Good d = NumDefinition d → WfDefinition Good d
+Read Good d = Numbered d → WfDefinition Good d
 
 module _ (Good : Token → List ℕ → Type 0) (Last : LOC → Type 0) where
   -- the comments that wait are comments, every token left is good, and so is the last place; no reader changes that place
@@ -487,7 +428,7 @@ module _ (Good : Token → List ℕ → Type 0) (Last : LOC → Type 0) where
 
   -- ---- fields
 
-  field-id-s : {s : St} → GoodS s → Sure (λ i. Given i → WfId Good i) (parseFieldId s)
+  field-id-s : {s : St} → GoodS s → Sure (λ i. HasId i → WfId Good i) (parseFieldId s)
   unfolding parseFieldId
   field-id-s {s} g =
       when-s _ _ _ s
@@ -504,7 +445,7 @@ module _ (Good : Token → List ℕ → Type 0) (Last : LOC → Type 0) where
   unfolding parseDefault
   default-s {s} g = when-s _ _ _ s (λ e. bind-s (next-s g) λ t s h g. bind-s (parse-value-s g) λ v s hv g. sure (wsome hv) g) (sure wnone g)
 
-  pub field-s : (s : St) → GoodS s → Sure (λ f. NumField f → WfField Good f) (parseField s)
+  pub field-s : (s : St) → GoodS s → Sure (λ f. NumberedField f → WfField Good f) (parseField s)
   unfolding parseField
   field-s s g =
       bind-s (taken-s g) λ c s hc g. bind-s (start-s g) λ p s y g. bind-s (field-id-s g) λ i s hi g. bind-s (required-s g) λ r s y g.
@@ -520,13 +461,13 @@ module _ (Good : Token → List ℕ → Type 0) (Last : LOC → Type 0) where
   unfolding parseMembers
   members-s U l r p hp g = bind-s (want-s _ 2 g) λ x s y g. list-s U (membersEnd r) p (members-end-s r) hp g
 
-  pub parameters-s : {s : St} → GoodS s → Sure (Some (λ f. NumField f → WfField Good f) most) (parseParameters s)
+  pub parameters-s : {s : St} → GoodS s → Sure (Some (λ f. NumberedField f → WfField Good f) most) (parseParameters s)
   unfolding parseParameters
-  parameters-s = members-s (λ f. NumField f → WfField Good f) T.LeftParen T.RightParen parseField field-s
+  parameters-s = members-s (λ f. NumberedField f → WfField Good f) T.LeftParen T.RightParen parseField field-s
 
   -- ---- functions
 
-  throws-s : {s : St} → GoodS s → Sure (λ th. NumThrows th → WfThrows Good th) (parseThrows s)
+  throws-s : {s : St} → GoodS s → Sure (λ th. NumberedThrows th → WfThrows Good th) (parseThrows s)
   unfolding parseThrows
   throws-s {s} g =
       when-s _ _ _ s
@@ -542,7 +483,7 @@ module _ (Good : Token → List ℕ → Type 0) (Last : LOC → Type 0) where
   unfolding parseOneway
   oneway-s {s} g = when-s _ _ _ s (λ e. bind-s (next-s g) λ t s h g. sure tt g) (sure tt g)
 
-  pub function-s : (s : St) → GoodS s → Sure (λ f. NumFunction f → WfFunction Good f) (parseFunction s)
+  pub function-s : (s : St) → GoodS s → Sure (λ f. NumberedFunction f → WfFunction Good f) (parseFunction s)
   unfolding parseFunction
   function-s s g =
       bind-s (taken-s g) λ c s hc g. bind-s (oneway-s g) λ o s y g. bind-s (return-type-s g) λ t s ht g. bind-s (want-s _ 2 g) λ m s hm g.
@@ -602,7 +543,7 @@ module _ (Good : Token → List ℕ → Type 0) (Last : LOC → Type 0) where
   unfolding parseStructure
   structure-s k g =
       bind-s (taken-s g) λ c s hc g. bind-s (next-s g) λ k s y g. bind-s (want-s _ 16 g) λ m s hm g.
-      bind-s (members-s (λ f. NumField f → WfField Good f) T.LeftBrace T.RightBrace parseField field-s g) λ fs s hf g.
+      bind-s (members-s (λ f. NumberedField f → WfField Good f) T.LeftBrace T.RightBrace parseField field-s g) λ fs s hf g.
       bind-s (annotations-s g) λ a s ha g. bind-s (here-s g) λ x s y g. sure (λ u. wstructure hc hm (both (hf .each) u) (hf .few) ha) g
 
   extends-s : {s : St} → GoodS s → Sure (WfOption Good (T.Identifier ∷ [])) (parseExtends s)
@@ -613,7 +554,7 @@ module _ (Good : Token → List ℕ → Type 0) (Last : LOC → Type 0) where
   unfolding parseService
   service-s g =
       bind-s (taken-s g) λ c s hc g. bind-s (next-s g) λ k s y g. bind-s (want-s _ 17 g) λ m s hm g. bind-s (extends-s g) λ x s hx g.
-      bind-s (members-s (λ f. NumFunction f → WfFunction Good f) T.LeftBrace T.RightBrace parseFunction function-s g) λ fs s hf g.
+      bind-s (members-s (λ f. NumberedFunction f → WfFunction Good f) T.LeftBrace T.RightBrace parseFunction function-s g) λ fs s hf g.
       bind-s (annotations-s g) λ a s ha g. bind-s (here-s g) λ e s y g. sure (λ u. wservice hc hm hx (both (hf .each) u) (hf .few) ha) g
 
   pub definition-s : (s : St) → GoodS s → Sure (Read Good) (parseDefinition s)

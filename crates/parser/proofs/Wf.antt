@@ -10,6 +10,7 @@ use Rattle.token.specs.declared.Token.{Token}
 use Rattle.token.specs.declared.Token.the-variants as T
 use Rattle.lexer.specs.declared.location.LOC.{LOC}
 use Rattle.lexer.specs.Tokens.{Lexeme}
+use Rattle.ast.specs.Lists.{All}
 use Rattle.ast.specs.Ast.{
   FieldType,
   CommonType,
@@ -54,42 +55,12 @@ use Rattle.parser.specs.Types.{leafTypes}
 use Rattle.parser.specs.Values.{leafValues}
 use Rattle.parser.specs.Definitions.{isId, fieldNames}
 
-pub data All {A : Type 0} (W : A → Type 0) : List A → Type 0 where
-  anil : All W []
-  acons : {x : A} {xs : List A} → W x → All W xs → All W (x ∷ xs)
-
 abbrev pub commentKinds : List Token
 commentKinds = T.LineComment ∷ T.BlockComment ∷ []
 
 -- a list that is read is shorter than this
 abbrev pub most : ℕ
 most = 65537
-
--- ---- every field is numbered
-
-abbrev pub Given : Option Lexeme → Type 0
-Given none = ⊥
-Given (some t) = Unit {0}
-
-abbrev pub NumField : Field → Type 0
-NumField (field l c i q t n v a) = Given i
-
-abbrev pub NumThrows : Option (List Field) → Type 0
-NumThrows none = Unit {0}
-NumThrows (some fs) = All NumField fs
-
-abbrev pub NumFunction : Function → Type 0
-NumFunction (function l c o t n ps th a) = All NumField ps × NumThrows th
-
-abbrev pub NumDefinition : Definition → Type 0
-NumDefinition (Include l c n) = Unit {0}
-NumDefinition (CppInclude l c n) = Unit {0}
-NumDefinition (Namespace l c s n) = Unit {0}
-NumDefinition (Const l c t n v) = Unit {0}
-NumDefinition (Typedef l c t n) = Unit {0}
-NumDefinition (Enum l c n xs a) = Unit {0}
-NumDefinition (structure s l c n fs a) = All NumField fs
-NumDefinition (Service l c n x fs a) = All NumFunction fs
 
 module _ (Good : Token → List ℕ → Type 0) where
   -- a good lexeme of one of these kinds

@@ -14,7 +14,7 @@ use Rattle.token.specs.declared.Token.{Token}
 use Rattle.token.specs.declared.Token.the-variants as T
 use Rattle.lexer.specs.declared.location.LOC.{LOC}
 use Rattle.lexer.specs.Tokens.{Lexeme, lexeme}
-use Rattle.ast.specs.Lists.{maps, opt}
+use Rattle.ast.specs.Lists.{maps, opt, All, anil, acons}
 use Rattle.ast.specs.Ast.{FieldType, FieldInitialValue, Elements, nil, cons, Properties, pnil, Annotation, Annotations, absent, annotations, Required, default, required, optional, Field, field, EnumMember, member, Function, function, Structure, Struct, Union, Exception, Definition, Include, CppInclude, Namespace, Const, Typedef, Enum, structure, Service}
 use Rattle.ast.specs.Drop.{dropField, dropFunction, dropParams}
 use Rattle.ast.proofs.Forget.{nowhere, bareL, bares, forgetType, forgetValue, forgetElements, forgetProperties, forgetAnnotation, forgetAnnotations, forgetField, forgetMember, forgetFunction, forgetDefinition, forget}
@@ -24,7 +24,7 @@ use Rattle.parser.specs.Values.{leafValues, openers, valuesEnd, property, put, 
 use Rattle.parser.specs.Definitions as D
 use Rattle.parser.specs.Definitions.{separators, nesting, parseType, parseValue, oneSeparator, parseAnnotation, annotationsEnd, parseAnnotations, parseFieldId, parseRequired, parseDefault, parseField, membersEnd, parseMembers, parseParameters, parseThrows, parseReturnType, parseOneway, parseFunction, parseInitializer, parseEnumMember, parseInclude, parseNamespace, parseConst, parseTypedef, parseEnum, parseStructure, parseExtends, parseService, parseDefinition, documentEnd, parseDocument}
 use Rattle.parser.proofs.Same.{kind-bare, bytes-bare, place-bare}
-use Rattle.parser.proofs.Wf.{All, anil, acons, commentKinds, most, Tok, WfType, wcommon, wlist, wset, wmap, WfValue, wleaf, wseq, wdict, WfElements, wnil, wcons, WfProperties, wpnil, wpcons, WfAnnotation, wannotation, WfAnnotations, wabsent, wannotations, WfId, wid, WfDefault, wnone, wsome, WfField, wfield, WfThrows, wquiet, wthrows, WfReturn, wvoid, wtype, WfFunction, wfunction, WfOption, wnothing, wjust, WfMember, wmember, WfDefinition, winclude, wcpp, wnamespace, wconst, wtypedef, wenum, wstructure, wservice}
+use Rattle.parser.proofs.Wf.{commentKinds, most, Tok, WfType, wcommon, wlist, wset, wmap, WfValue, wleaf, wseq, wdict, WfElements, wnil, wcons, WfProperties, wpnil, wpcons, WfAnnotation, wannotation, WfAnnotations, wabsent, wannotations, WfId, wid, WfDefault, wnone, wsome, WfField, wfield, WfThrows, wquiet, wthrows, WfReturn, wvoid, wtype, WfFunction, wfunction, WfOption, wnothing, wjust, WfMember, wmember, WfDefinition, winclude, wcpp, wnamespace, wconst, wtypedef, wenum, wstructure, wservice}
 use Rattle.writer.specs.Print.{Piece, gap, mark, word, note, own, keyword, space, line, comma, writeType, writeValue, writeElements, moreElements, writeProperties, moreProperties, writeEach, commas, nothing, writeAnnotation, writeAnnotations, writeComment, writeComments, writeId, writeRequired, writeDefault, writeField, writeParam, writeInitializer, writeMember, writeThrows, writeOneway, writeFunction, writeBody, structureKeyword, writeExtends, writeDefinition, pieces}
 use Rattle.writer.proofs.Toks.{toks}
 

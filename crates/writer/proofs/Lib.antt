@@ -3,3 +3,4 @@ pub mod Toks
 pub mod Lexes
 pub mod Apart
 pub mod Back
+pub mod Places
