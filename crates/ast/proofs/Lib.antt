@@ -1,1 +1,2 @@
 pub mod Forget
+pub mod Drops

@@ -1,3 +1,4 @@
 pub mod Good
 pub mod Last
 pub mod Printed
+pub mod Steps
