@@ -2,7 +2,7 @@
 """Computes the definitions of reading and printing on the texts of oracle/answers.list and holds them to rico's answers.
 
 usage: tools/definitions_on_list.py [LONGEST [EVERY]]
-LONGEST: texts up to so many bytes (default 60); EVERY: each so-many-th of them (default 20).
+LONGEST: texts up to so many bytes (default 100); EVERY: each so-many-th of them (default 8), and the first of each refusal, kind and flags.
 Each text becomes a theorem by computation, in a copy of the crates under target/definitions: records, comments and refusals against
 parser/specs/Read, prints at 0, 2 and 8 against writer/specs/Print. ASCII texts only. It is slow (about a tenth of a second a theorem) and no part of the gate."""
 import os
@@ -12,8 +12,8 @@ import struct
 import subprocess
 import sys
 
-longest = int(sys.argv[1]) if len(sys.argv) > 1 else 60
-every = int(sys.argv[2]) if len(sys.argv) > 2 else 20
+longest = int(sys.argv[1]) if len(sys.argv) > 1 else 100
+every = int(sys.argv[2]) if len(sys.argv) > 2 else 8
 data = open("oracle/answers.list", "rb").read()
 at = 0
 
@@ -58,7 +58,22 @@ def run(crate):
     return log.returncode
 
 
-cases = [c for c in (case() for _ in range(number())) if len(c[0]) <= longest and all(b < 127 for b in c[0])][::every]
+def features(text, refusal, nodes, comments, prints):
+    """What a case shows: its refusal, or the kinds with their flags and the owners of comments."""
+    if refusal:
+        return {("refusal", refusal[0])}
+    return {("record", r[0], r[2]) for r in nodes} | {("comment", r[0], nodes[r[1]][0]) for r in comments}
+
+
+short = [c for c in (case() for _ in range(number())) if len(c[0]) <= longest and all(b < 127 for b in c[0])]
+cases, met = [], set()
+for i, c in enumerate(short):
+    if i % every == 0 or features(*c) - met:
+        cases.append(c)
+        met |= features(*c)
+print("refusals", *sorted(f[1] for f in met if f[0] == "refusal"))
+print("records", *sorted(f"{f[1]}/{f[2]}" for f in met if f[0] == "record"))
+print("comments", *sorted(f"{f[1]} of {f[2]}" for f in met if f[0] == "comment"))
 shutil.rmtree("target/definitions", ignore_errors=True)
 os.makedirs("target/definitions")
 shutil.copytree("crates", "target/definitions/crates", symlinks=True)
@@ -68,11 +83,12 @@ shutil.copy("crates.txt", "target/definitions/crates.txt")
 def module(crate, source, head, theorems):
     """Theorems in files of 200, declared in place of the crate's own proofs."""
     folder = f"target/definitions/crates/{crate}/proofs"
+    shutil.rmtree(folder)
+    os.makedirs(folder)
     names = []
     for i in range(0, len(theorems), 200):
         names.append(f"List{i // 200}")
         open(f"{folder}/{names[-1]}.antt", "w").write(head + "\n" + "\n".join(theorems[i : i + 200]))
-    os.remove(f"{folder}/Cases.antt")
     open(f"{folder}/Lib.antt", "w").write("".join(f"pub mod {n}\n" for n in names))
 
 
@@ -90,9 +106,9 @@ print(f"{len(cases)} texts, {sum(c[1] is None for c in cases)} of them accepted"
 bad = run("parser")
 
 source = open("crates/writer/proofs/Cases.antt").read()
-head = source[: source.index("-- a printing of the text with room")]
-opened = re.search(r"unfolding (?:.|\n)*?(?=\nedge n =)", source).group(0)
-head += f"unfoldable whole : Prim.Native.String.String → ℕ → List ℕ\n{opened}\nwhole s i = W.printOf i (W.outcomeAt i (checked (bytes s)) (bytes s))\n"
+head, rest = source.split("-- a reading and a printing of a text at an indent")
+opened = re.search(r"unfolding (?:.|\n)*?(?=\nboth t indent)", rest).group(0)
+head += f"unfoldable whole : String → ℕ → List ℕ\n{opened}\nwhole s i = W.printOf i (W.outcomeAt i (checked (bytes s)) (bytes s))\n"
 prints = [(c[0], n, p) for c in cases if c[4] for n, p in zip((0, 2, 8), c[4])]
 theorems = [f"p{i} : whole {quoted(t)} {n} ≡ bytes {quoted(p)}\nunfolding whole bytes\np{i} = refl\n" for i, (t, n, p) in enumerate(prints)]
 shutil.rmtree("target/definitions/crates/parser")

@@ -1,5 +1,6 @@
 //! rico's syntax tree as document 01's records.
 
+use crate::tokens::places;
 use rico::ast::*;
 
 /// Kind, parent, flags, then index, line and column of start and end.
@@ -24,18 +25,8 @@ pub fn flatten(document: &Document) -> Tables {
 }
 
 fn record(kind: u32, parent: u32, flags: u32, loc: &LOC) -> Record {
-    let (s, e) = (&loc.start, &loc.end);
-    [
-        kind,
-        parent,
-        flags,
-        s.index as u32,
-        s.line as u32,
-        s.column as u32,
-        e.index as u32,
-        e.line as u32,
-        e.column as u32,
-    ]
+    let [a, b, c, d, e, f] = places(&loc.start, &loc.end);
+    [kind, parent, flags, a, b, c, d, e, f]
 }
 
 impl Tables {

@@ -1,5 +1,6 @@
 //! The token cut: rico's own lexer and places.
 
+use rico::ast::Span;
 use rico::lexer::Token;
 use rico::parser::{Parser, ParserToken};
 
@@ -25,16 +26,13 @@ pub fn number(token: Token) -> u32 {
     token as u32
 }
 
-/// Kind, then index, line and column of start and end.
+/// Index, line and column of start and of end.
+pub fn places(s: &Span, e: &Span) -> [u32; 6] {
+    [s.index, s.line, s.column, e.index, e.line, e.column].map(|n| n as u32)
+}
+
+/// Kind, then the places.
 pub fn numbers(token: &ParserToken) -> [u32; 7] {
-    let (s, e) = (&token.start, &token.end);
-    [
-        number(token.token),
-        s.index as u32,
-        s.line as u32,
-        s.column as u32,
-        e.index as u32,
-        e.line as u32,
-        e.column as u32,
-    ]
+    let [a, b, c, d, e, f] = places(&token.start, &token.end);
+    [number(token.token), a, b, c, d, e, f]
 }
