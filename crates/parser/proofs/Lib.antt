@@ -3,3 +3,4 @@ pub mod Same
 pub mod Wf
 pub mod Sure
 pub mod Ended
+pub mod Paid
