@@ -4,3 +4,4 @@ pub mod Wf
 pub mod Sure
 pub mod Ended
 pub mod Paid
+pub mod Idl
