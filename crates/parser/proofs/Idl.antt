@@ -81,6 +81,7 @@ use Rattle.parser.specs.Values.{
   fieldValue,
 }
 use Rattle.parser.specs.Definitions.{separators}
+use Rattle.parser.proofs.Loops.{loop-end, loop-more}
 use Rattle.parser.specs.Idl.{
   BaseType,
   DerivesType,
@@ -668,15 +669,6 @@ unfolding valuesEnd bind
 ends k z = rw (z .separators-past, z .comments-past)
 
 -- ---- values: what is derived is read
-
-module _ {A B : Type 0} (none : B) (some : A → B → B) (end : P Bool) (p : P A) (n : ℕ) (s : St) where
-  loop-end : (u : St) → end s ≡ ok true u → loop none some end p (suc n) s ≡ ok none u
-  unfolding loop bind test
-  loop-end u h = rw h
-
-  loop-more : (t u v : St) (a : A) (x : B) → end s ≡ ok false t → p t ≡ ok a u → loop none some end p n u ≡ ok x v → loop none some end p (suc n) s ≡ ok (some a x) v
-  unfolding loop bind test
-  loop-more t u v a x h g k = rw (h, g, k)
 
 -- what ends a list of values, and what a value begins with
 data Closer : Token → Type 0 where

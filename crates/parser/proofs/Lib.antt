@@ -1,4 +1,5 @@
 pub mod Cases
+pub mod Loops
 pub mod Same
 pub mod Wf
 pub mod Sure

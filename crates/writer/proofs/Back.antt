@@ -24,6 +24,7 @@ use Rattle.parser.specs.Values.{leafValues, openers, valuesEnd, property, put, 
 use Rattle.parser.specs.Definitions as D
 use Rattle.parser.specs.Definitions.{separators, nesting, parseType, parseValue, oneSeparator, parseAnnotation, annotationsEnd, parseAnnotations, parseFieldId, parseRequired, parseDefault, parseField, membersEnd, parseMembers, parseParameters, parseThrows, parseReturnType, parseOneway, parseFunction, parseInitializer, parseEnumMember, parseInclude, parseNamespace, parseConst, parseTypedef, parseEnum, parseStructure, parseExtends, parseService, parseDefinition, documentEnd, parseDocument}
 use Rattle.parser.proofs.Same.{kind-bare, bytes-bare, place-bare}
+use Rattle.parser.proofs.Loops.{loop-end, loop-more}
 use Rattle.parser.proofs.Wf.{commentKinds, most, Tok, WfType, wcommon, wlist, wset, wmap, WfValue, wleaf, wseq, wdict, WfElements, wnil, wcons, WfProperties, wpnil, wpcons, WfAnnotation, wannotation, WfAnnotations, wabsent, wannotations, WfId, wid, WfDefault, wnone, wsome, WfField, wfield, WfThrows, wquiet, wthrows, WfReturn, wvoid, wtype, WfFunction, wfunction, WfOption, wnothing, wjust, WfMember, wmember, WfDefinition, winclude, wcpp, wnamespace, wconst, wtypedef, wenum, wstructure, wservice}
 use Rattle.writer.specs.Print.{Piece, gap, mark, word, note, own, keyword, space, line, comma, writeType, writeValue, writeElements, moreElements, writeProperties, moreProperties, writeEach, commas, nothing, writeAnnotation, writeAnnotations, writeComment, writeComments, writeId, writeRequired, writeDefault, writeField, writeParam, writeInitializer, writeMember, writeThrows, writeOneway, writeFunction, writeBody, structureKeyword, writeExtends, writeDefinition, pieces}
 use Rattle.writer.proofs.Toks.{toks}
@@ -236,17 +237,6 @@ module _ (l : LOC) (c : List Lexeme) where
 separator-comma : (c : List Lexeme) (b : List ℕ) (r : List Piece) → skip-separator (on c (comma ∷ gap b ∷ r)) ≡ skip-separator (on c r)
 unfolding skip-separator skip pass toks kind place fate among is code by
 separator-comma c b r = refl
-
--- ---- the loop
-
-module _ {A B : Type 0} (e : B) (f : A → B → B) (end : P Bool) (p : P A) (n : ℕ) (s : St) where
-  loop-end : (u : St) → end s ≡ ok true u → loop e f end p (suc n) s ≡ ok e u
-  unfolding loop bind test
-  loop-end u h = rw h
-
-  loop-more : (t u v : St) (a : A) (x : B) → end s ≡ ok false t → p t ≡ ok a u → loop e f end p n u ≡ ok x v → loop e f end p (suc n) s ≡ ok (f a x) v
-  unfolding loop bind test
-  loop-more t u v a x h g k = simp (h, g, k)
 
 -- ---- types
 
