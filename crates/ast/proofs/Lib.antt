@@ -1,2 +1,3 @@
 pub mod Forget
 pub mod Drops
+pub mod Counts

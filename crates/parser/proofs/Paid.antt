@@ -1,6 +1,4 @@
 -- What is read has at most two node records and one comment for each token taken.
---     node-rows-size  as many node records as the forest has nodes
---     notes-count     as many comment records as the forest has comments
 --     Paid            a reading's records and comments, bounded by the tokens and comments that it takes; a law for each reader
 --     nodes-bound     at most twice as many node records as tokens
 --     notes-bound     at most as many comments as tokens
@@ -179,54 +177,8 @@ use Rattle.parser.specs.Definitions.{
   parseDocument,
 }
 use Rattle.parser.specs.Read.{read, refused as rejected, parsed, answered, outcomeBy, outcome}
-use Rattle.ast.specs.Records.{size, sizes, rows, rowsOf, owned, commentRows, commentRowsOf, forest, nodeRows, notes, noParent}
-
--- ---- nodes and comments of trees
-
--- how many comments a tree has
-unfoldable mutual
-  pub noteCount : Tree → ℕ
-  noteCount (node k f l w c ts) = length c + noteCounts ts
-
-  pub noteCounts : Forest → ℕ
-  noteCounts bare = 0
-  noteCounts (grown t ts) = noteCount t + noteCounts ts
-
-mutual
-  unfolding rows size
-
-  pub rows-size : (t : Tree) (p n : ℕ) → length (rows t p n) ≡ size t
-  rows-size (node k f l w c ts) p n = ap suc (rows-sizes ts n (suc n))
-
-  pub rows-sizes : (f : Forest) (p n : ℕ) → length (rowsOf f p n) ≡ sizes f
-  rows-sizes bare p n = refl
-  rows-sizes (grown t ts) p n =
-      omega (arith, length-append (rows t p n) (rowsOf ts p (n + size t)), rows-size t p n, rows-sizes ts p (n + size t))
-
-owned-count : (n : ℕ) (c : List Lexeme) → length (owned n c) ≡ length c
-unfolding owned
-owned-count n [] = refl
-owned-count n (t ∷ c) = ap suc (owned-count n c)
-
-mutual
-  unfolding commentRows noteCount
-
-  pub note-count : (t : Tree) (n : ℕ) → length (commentRows t n) ≡ noteCount t
-  note-count (node k f l w c ts) n =
-      omega (arith, length-append (owned n c) (commentRowsOf ts (suc n)), owned-count n c, note-counts ts (suc n))
-
-  pub note-counts : (f : Forest) (n : ℕ) → length (commentRowsOf f n) ≡ noteCounts f
-  note-counts bare n = refl
-  note-counts (grown t ts) n =
-      omega (arith, length-append (commentRows t n) (commentRowsOf ts (n + size t)), note-count t n, note-counts ts (n + size t))
-
-pub node-rows-size : (ds : List Definition) → length (nodeRows ds) ≡ sizes (forest ds)
-unfolding nodeRows
-node-rows-size ds = rows-sizes (forest ds) noParent 0
-
-pub notes-count : (ds : List Definition) → length (notes ds) ≡ noteCounts (forest ds)
-unfolding notes
-notes-count ds = note-counts (forest ds) 0
+use Rattle.ast.specs.Records.{size, sizes, forest, nodeRows, notes}
+use Rattle.ast.proofs.Counts.{noteCount, noteCounts, node-rows-size, notes-count}
 
 -- ---- the parts of each tree
 
