@@ -55,7 +55,7 @@ mutual
   rows-sizes (grown t ts) p n =
       omega (arith, length-append (rows t p n) (rowsOf ts p (n + size t)), rows-size t p n, rows-sizes ts p (n + size t))
 
-owned-count : (n : ℕ) (c : List Lexeme) → length (owned n c) ≡ length c
+pub owned-count : (n : ℕ) (c : List Lexeme) → length (owned n c) ≡ length c
 unfolding owned
 owned-count n [] = refl
 owned-count n (t ∷ c) = ap suc (owned-count n c)
@@ -90,21 +90,21 @@ row-width k p f l = refl
 abbrev pub Wide : List ℕ → Type 0
 Wide r = length r ≡ width
 
-append-all : {W : List ℕ → Type 0} {xs ys : List (List ℕ)} → All W xs → All W ys → All W (xs ++ ys)
+pub append-all : {W : List ℕ → Type 0} {xs ys : List (List ℕ)} → All W xs → All W ys → All W (xs ++ ys)
 append-all anil h = h
 append-all (acons g gs) h = acons g (append-all gs h)
 
 mutual
   unfolding rows
 
-  rows-wide : (t : Tree) (p n : ℕ) → All Wide (rows t p n)
+  pub rows-wide : (t : Tree) (p n : ℕ) → All Wide (rows t p n)
   rows-wide (node k f l w c ts) p n = acons (row-width k p f l) (forest-wide ts n (suc n))
 
-  forest-wide : (f : Forest) (p n : ℕ) → All Wide (rowsOf f p n)
+  pub forest-wide : (f : Forest) (p n : ℕ) → All Wide (rowsOf f p n)
   forest-wide bare p n = anil
   forest-wide (grown t ts) p n = append-all (rows-wide t p n) (forest-wide ts p (n + size t))
 
-owned-wide : (n : ℕ) (c : List Lexeme) → All Wide (owned n c)
+pub owned-wide : (n : ℕ) (c : List Lexeme) → All Wide (owned n c)
 unfolding owned commentRow
 owned-wide n [] = anil
 owned-wide n (lexeme k w l ∷ c) = acons (row-width _ n 0 l) (owned-wide n c)
@@ -115,7 +115,7 @@ mutual
   comment-rows-wide : (t : Tree) (n : ℕ) → All Wide (commentRows t n)
   comment-rows-wide (node k f l w c ts) n = append-all (owned-wide n c) (comments-wide ts (suc n))
 
-  comments-wide : (f : Forest) (n : ℕ) → All Wide (commentRowsOf f n)
+  pub comments-wide : (f : Forest) (n : ℕ) → All Wide (commentRowsOf f n)
   comments-wide bare n = anil
   comments-wide (grown t ts) n = append-all (comment-rows-wide t n) (comments-wide ts (n + size t))
 

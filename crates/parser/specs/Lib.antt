@@ -5,3 +5,4 @@ pub mod Definitions
 pub mod Read
 pub mod Edges
 pub mod Idl
+pub mod Into

@@ -54,6 +54,11 @@ unfoldable pub answer : Outcome → List ℕ → List ℕ → Answer
 answer (read ds) nodes comments = fitted ds nodes comments
 answer (refused e p n) nodes comments = Refused e p n
 
+-- document 01's numbers of an answer: 0 and the counts, or the refusal's number, place and length
+unfoldable pub numbers : Answer → List ℕ
+numbers (Accepted n c) = 0 ∷ n ∷ c ∷ []
+numbers (Refused e p n) = e ∷ p ∷ n ∷ []
+
 -- a table afterwards: filled where the reading is accepted, all 0 where it is refused
 unfoldable pub left : Answer → List (List ℕ) → List ℕ → List ℕ
 left (Accepted n c) rs table = filled rs table

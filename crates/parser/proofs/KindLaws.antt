@@ -1,0 +1,205 @@
+-- Kinds of tokens against their numbers, by tests over all 52.
+--     same-kind           kinds of one number are one
+--     agree, alike        two functions of a kind that give the same at each of them
+--     Tests               a test of a number that says whether a kind is among these, and fails where no token is ahead
+-- Assumes nothing.
+use mathlib.Core.Path.{_≡_, refl, sym, ap, _∙_}
+use mathlib.Core.Bool.{Bool, true, false, not, cond, _||_, _&&_, false≢true}
+use mathlib.Core.List.{List, [], _∷_}
+use Prim.Native.Nat.{ℕ, zero, suc}
+use borrow.Author.Tests.{eqb-true}
+use lib.Dec.{eqb}
+use lib.ListN.{getD}
+use Rattle.token.specs.Code.{code, is, among}
+use Rattle.token.specs.declared.Token.{Token}
+use Rattle.token.specs.declared.Token.the-variants as T
+use Rattle.ast.specs.Tree.{valueKind}
+use Rattle.parser.specs.Types.{leafTypes, containerTypes}
+use Rattle.parser.specs.Values.{leafValues, openers}
+use Rattle.parser.specs.Definitions.{separators, fieldNames}
+use Rattle.parser.specs.Into.{isSeparator, isComment, leafType, containerType, leafValue, isOpener, isFieldName, isEarlyName}
+use Rattle.parser.proofs.Wf.{commentKinds}
+
+-- every kind, by its number
+abbrev kinds : List Token
+kinds =
+    T.Newline ∷ T.Namespace ∷ T.CppInclude ∷ T.Include ∷ T.Typedef ∷ T.Const ∷ T.Enum ∷ T.Struct ∷ T.Union ∷ T.Exception ∷ T.Service
+    ∷ T.Extends ∷ T.Throws ∷ T.Required ∷ T.Optional ∷ T.Void ∷ T.Bool ∷ T.Byte ∷ T.I8 ∷ T.I16 ∷ T.I32 ∷ T.I64
+    ∷ T.Double ∷ T.String ∷ T.Binary ∷ T.Map ∷ T.List ∷ T.Set ∷ T.Identifier ∷ T.StringLiteral ∷ T.DoubleLiteral ∷ T.HexLiteral ∷ T.IntegerLiteral
+    ∷ T.BooleanLiteral ∷ T.LeftBrace ∷ T.RightBrace ∷ T.LeftBracket ∷ T.RightBracket ∷ T.LeftAngle ∷ T.RightAngle ∷ T.LeftParen ∷ T.RightParen ∷ T.Semicolon ∷ T.Colon
+    ∷ T.Comma ∷ T.Equals ∷ T.Dot ∷ T.Star ∷ T.LineComment ∷ T.BlockComment ∷ T.Oneway ∷ T.Blank ∷ []
+
+kind-at : (k : Token) → getD kinds (code k) T.Blank ≡ k
+unfolding code
+kind-at T.Newline = refl
+kind-at T.Namespace = refl
+kind-at T.CppInclude = refl
+kind-at T.Include = refl
+kind-at T.Typedef = refl
+kind-at T.Const = refl
+kind-at T.Enum = refl
+kind-at T.Struct = refl
+kind-at T.Union = refl
+kind-at T.Exception = refl
+kind-at T.Service = refl
+kind-at T.Extends = refl
+kind-at T.Throws = refl
+kind-at T.Required = refl
+kind-at T.Optional = refl
+kind-at T.Void = refl
+kind-at T.Bool = refl
+kind-at T.Byte = refl
+kind-at T.I8 = refl
+kind-at T.I16 = refl
+kind-at T.I32 = refl
+kind-at T.I64 = refl
+kind-at T.Double = refl
+kind-at T.String = refl
+kind-at T.Binary = refl
+kind-at T.Map = refl
+kind-at T.List = refl
+kind-at T.Set = refl
+kind-at T.Identifier = refl
+kind-at T.StringLiteral = refl
+kind-at T.DoubleLiteral = refl
+kind-at T.HexLiteral = refl
+kind-at T.IntegerLiteral = refl
+kind-at T.BooleanLiteral = refl
+kind-at T.LeftBrace = refl
+kind-at T.RightBrace = refl
+kind-at T.LeftBracket = refl
+kind-at T.RightBracket = refl
+kind-at T.LeftAngle = refl
+kind-at T.RightAngle = refl
+kind-at T.LeftParen = refl
+kind-at T.RightParen = refl
+kind-at T.Semicolon = refl
+kind-at T.Colon = refl
+kind-at T.Comma = refl
+kind-at T.Equals = refl
+kind-at T.Dot = refl
+kind-at T.Star = refl
+kind-at T.LineComment = refl
+kind-at T.BlockComment = refl
+kind-at T.Oneway = refl
+kind-at T.Blank = refl
+
+pub same-kind : (k j : Token) → is k j ≡ true → k ≡ j
+unfolding is
+same-kind k j h = sym (kind-at k) ∙ ap (λ (n : ℕ). getD kinds n T.Blank) (eqb-true (code k) (code j) h) ∙ kind-at j
+
+-- ---- tests over all kinds
+
+all : (Token → Bool) → List Token → Bool
+all f [] = true
+all f (k ∷ ks) = f k && all f ks
+
+both-true : (a b : Bool) → (a && b) ≡ true → (a ≡ true) × (b ≡ true)
+both-true true b h = (refl, h)
+both-true false b h = absurd (false≢true h)
+
+all-at : (f : Token → Bool) (d : Token) → f d ≡ true → (ks : List Token) (n : ℕ) → all f ks ≡ true → f (getD ks n d) ≡ true
+unfolding all
+all-at f d e [] n h = e
+all-at f d e (k ∷ ks) zero h = both-true (f k) (all f ks) h .0
+all-at f d e (k ∷ ks) (suc n) h = all-at f d e ks n (both-true (f k) (all f ks) h .1)
+
+-- what is true of each kind is true of any
+holds : (f : Token → Bool) → all f kinds ≡ true → f T.Blank ≡ true → (k : Token) → f k ≡ true
+holds f h e k = rw (kind-at k) at (all-at f T.Blank e kinds (code k) h)
+
+same : Bool → Bool → Bool
+same a b = cond a b (not b)
+
+same-true : (a b : Bool) → same a b ≡ true → a ≡ b
+unfolding same
+same-true true true h = refl
+same-true true false h = absurd (false≢true h)
+same-true false true h = absurd (false≢true h)
+same-true false false h = refl
+
+agree : (f g : Token → Bool) → all (λ k. same (f k) (g k)) kinds ≡ true → same (f T.Blank) (g T.Blank) ≡ true → (k : Token) → f k ≡ g k
+agree f g h e k = same-true (f k) (g k) (holds (λ k. same (f k) (g k)) h e k)
+
+-- of the kinds of which c is true, the same number
+alike : (c : Token → Bool) (f g : Token → ℕ) → all (λ k. cond (c k) (eqb (f k) (g k)) true) kinds ≡ true
+    → cond (c T.Blank) (eqb (f T.Blank) (g T.Blank)) true ≡ true
+    → (k : Token) → c k ≡ true → f k ≡ g k
+alike c f g h e k t = eqb-true (f k) (g k) (rw t at (holds (λ k. cond (c k) (eqb (f k) (g k)) true) h e k))
+
+pub record Tests (g : ℕ → Bool) (ks : List Token) : Type 0 where
+  pub agrees : (k : Token) → g (code k) ≡ among k ks
+  pub fails : g 255 ≡ false
+
+code-below : (k : Token) → eqb 255 (code k) ≡ false
+unfolding all same code
+code-below = agree (λ k. eqb 255 (code k)) (λ k. false) refl refl
+
+pub code-some : (k : Token) → eqb (code k) 255 ≡ false
+unfolding all same code
+code-some = agree (λ k. eqb (code k) 255) (λ k. false) refl refl
+
+or-false : (a : Bool) → a ≡ (a || false)
+or-false true = refl
+or-false false = refl
+
+pub one-test : (j : Token) → Tests (λ n. eqb n (code j)) (j ∷ [])
+unfolding among is
+one-test j = record { agrees = λ k. or-false (eqb (code k) (code j)); fails = code-below j }
+
+pub one-kind : (k j : Token) → among k (j ∷ []) ≡ true → k ≡ j
+unfolding among
+one-kind k j h = same-kind k j (or-false (is k j) ∙ h)
+
+pub separator-test : Tests isSeparator separators
+unfolding all same code is among isSeparator
+separator-test = record { agrees = agree (λ k. isSeparator (code k)) (λ k. among k separators) refl refl; fails = refl }
+
+pub comment-test : Tests isComment commentKinds
+unfolding all same code is among isComment
+comment-test = record { agrees = agree (λ k. isComment (code k)) (λ k. among k commentKinds) refl refl; fails = refl }
+
+pub name-test : Tests isFieldName fieldNames
+unfolding all same code is among isFieldName isEarlyName
+name-test = record { agrees = agree (λ k. isFieldName (code k)) (λ k. among k fieldNames) refl refl; fails = refl }
+
+pub opener-test : Tests isOpener openers
+unfolding all same code is among isOpener
+opener-test = record { agrees = agree (λ k. isOpener (code k)) (λ k. among k openers) refl refl; fails = refl }
+
+-- ---- the kinds of types and values
+
+pub leaf-type-none : (k : Token) → eqb (leafType (code k)) 0 ≡ not (among k leafTypes)
+unfolding all same code is among leafType
+leaf-type-none = agree (λ k. eqb (leafType (code k)) 0) (λ k. not (among k leafTypes)) refl refl
+
+pub leaf-type : (k : Token) → among k leafTypes ≡ true → leafType (code k) ≡ cond (is k T.Identifier) 19 18
+unfolding all code is among leafType
+leaf-type = alike (λ k. among k leafTypes) (λ k. leafType (code k)) (λ k. cond (is k T.Identifier) 19 18) refl refl
+
+pub container-type-none : (k : Token) → eqb (containerType (code k)) 0 ≡ not (among k containerTypes)
+unfolding all same code is among containerType
+container-type-none = agree (λ k. eqb (containerType (code k)) 0) (λ k. not (among k containerTypes)) refl refl
+
+pub container-type : (k : Token) → among k containerTypes ≡ true → containerType (code k) ≡ cond (is k T.List) 20 (cond (is k T.Set) 21 22)
+unfolding all code is among containerType
+container-type = alike (λ k. among k containerTypes) (λ k. containerType (code k)) (λ k. cond (is k T.List) 20 (cond (is k T.Set) 21 22)) refl refl
+
+pub leaf-value-none : (k : Token) → eqb (leafValue (code k)) 0 ≡ not (among k leafValues)
+unfolding all same code is among leafValue
+leaf-value-none = agree (λ k. eqb (leafValue (code k)) 0) (λ k. not (among k leafValues)) refl refl
+
+pub leaf-value : (k : Token) → among k leafValues ≡ true → leafValue (code k) ≡ valueKind k
+unfolding all code is among leafValue valueKind
+leaf-value = alike (λ k. among k leafValues) (λ k. leafValue (code k)) valueKind refl refl
+
+-- no kind is both a separator's and a comment's
+pub apart : (k : Token) → among k commentKinds ≡ true → among k separators ≡ false
+unfolding all same code is among
+apart k h =
+    let e : (among k separators && among k commentKinds) ≡ false = agree (λ k. among k separators && among k commentKinds) (λ k. false) refl refl k in
+    go (among k separators) (rw h at e)
+  where
+    go : (a : Bool) → (a && true) ≡ false → a ≡ false
+    go true e = absurd (false≢true (sym e))
+    go false e = refl
