@@ -3,8 +3,8 @@
 
 usage: tools/definitions_on_list.py [LONGEST [EVERY]]
 LONGEST: texts up to so many bytes (default 100); EVERY: each so-many-th of them (default 8), and the first of each refusal, kind and flags.
-Each text becomes a theorem by computation, in a copy of the crates under target/definitions: records, comments and refusals against
-parser/specs/Read, prints at 0, 2 and 8 against writer/specs/Print. ASCII texts only. It is slow (about a tenth of a second a theorem) and no part of the gate."""
+Each text becomes a theorem by computation, in a crate of its own beside a copy of the crates under target/definitions: records, comments and refusals
+against parser/specs/Read, prints at 0, 2 and 8 against writer/specs/Print. The crates must be proved before (rt check writer). ASCII texts only. It is slow (about a tenth of a second a theorem) and no part of the gate."""
 import os
 import re
 import shutil
@@ -49,11 +49,11 @@ def listed(xs, show=str):
     return "(" + " ∷ ".join(map(show, xs)) + " ∷ [])" if xs else "[]"
 
 
-def run(crate):
-    log = subprocess.run(["rt", "dev", crate], cwd="target/definitions", capture_output=True, text=True)
+def run():
+    log = subprocess.run(["rt", "dev", "held"], cwd="target/definitions", capture_output=True, text=True)
     wrong = [line for line in (log.stdout + log.stderr).split("\n") if ": error" in line]
-    print(f"{crate}: {len(wrong)} wrong, exit {log.returncode}")
-    for line in wrong[:10]:
+    print(f"{len(wrong)} wrong, exit {log.returncode}")
+    for line in wrong[:10] or (log.stdout + log.stderr).split("\n")[-3:]:
         print(line[:300])
     return log.returncode
 
@@ -75,21 +75,26 @@ print("refusals", *sorted(f[1] for f in met if f[0] == "refusal"))
 print("records", *sorted(f"{f[1]}/{f[2]}" for f in met if f[0] == "record"))
 print("comments", *sorted(f"{f[1]} of {f[2]}" for f in met if f[0] == "comment"))
 shutil.rmtree("target/definitions", ignore_errors=True)
-os.makedirs("target/definitions")
-shutil.copytree("crates", "target/definitions/crates", symlinks=True)
-shutil.copy("crates.txt", "target/definitions/crates.txt")
+os.makedirs("target/definitions/crates/held/proofs")
+os.makedirs("target/definitions/crates/held/src")
+shutil.copytree("crates", "target/definitions/crates", symlinks=True, dirs_exist_ok=True)
+for part in ("rlib", "stamp"):
+    shutil.copytree(f"target/{part}", f"target/definitions/target/{part}")
+open("target/definitions/crates.txt", "w").write(open("crates.txt").read() + "held: writer parser ast lexer token\n")
+open("target/definitions/crates/held/src/lib.rt", "w").write("// Theorems by computation.\n")
+names = []
 
 
-def module(crate, source, head, theorems):
-    """Theorems in files of 200, declared in place of the crate's own proofs."""
-    folder = f"target/definitions/crates/{crate}/proofs"
-    shutil.rmtree(folder)
-    os.makedirs(folder)
-    names = []
+def outside(head):
+    """The head of a proof file as a crate above would write it."""
+    return re.sub(r"Rattle·(\w+)·specs\.specs\.", r"Rattle·\1.specs.", head)
+
+
+def module(kind, head, theorems):
+    """Theorems in files of 200."""
     for i in range(0, len(theorems), 200):
-        names.append(f"List{i // 200}")
-        open(f"{folder}/{names[-1]}.antt", "w").write(head + "\n" + "\n".join(theorems[i : i + 200]))
-    open(f"{folder}/Lib.antt", "w").write("".join(f"pub mod {n}\n" for n in names))
+        names.append(f"{kind}{i // 200}")
+        open(f"target/definitions/crates/held/proofs/{names[-1]}.antt", "w").write(outside(head) + "\n" + "\n".join(theorems[i : i + 200]))
 
 
 source = open("crates/parser/proofs/Cases.antt").read()
@@ -101,9 +106,8 @@ theorems = []
 for i, (text, refusal, nodes, comments, _) in enumerate(cases):
     edge = f"refuses {quoted(text)} {' '.join(map(str, refusal))}" if refusal else f"accepts {quoted(text)} {listed(nodes, listed)} {listed(comments, listed)}"
     theorems.append(f"c{i} : Holds ({edge})\n{opened}c{i} = {'refl' if refusal else '(refl, refl)'}\n")
-module("parser", source, head, theorems)
+module("Text", head, theorems)
 print(f"{len(cases)} texts, {sum(c[1] is None for c in cases)} of them accepted")
-bad = run("parser")
 
 source = open("crates/writer/proofs/Cases.antt").read()
 head, rest = source.split("-- a reading and a printing of a text at an indent")
@@ -111,8 +115,7 @@ opened = re.search(r"unfolding (?:.|\n)*?(?=\nboth t indent)", rest).group(0)
 head += f"unfoldable whole : String → ℕ → List ℕ\n{opened}\nwhole s i = W.printOf i (W.outcomeAt i (checked (bytes s)) (bytes s))\n"
 prints = [(c[0], n, p) for c in cases if c[4] for n, p in zip((0, 2, 8), c[4])]
 theorems = [f"p{i} : whole {quoted(t)} {n} ≡ bytes {quoted(p)}\nunfolding whole bytes\np{i} = refl\n" for i, (t, n, p) in enumerate(prints)]
-shutil.rmtree("target/definitions/crates/parser")
-shutil.copytree("crates/parser", "target/definitions/crates/parser")
-module("writer", source, head, theorems)
+module("Print", head, theorems)
 print(f"{len(prints)} prints")
-sys.exit(bad or run("writer"))
+open("target/definitions/crates/held/proofs/Lib.antt", "w").write("".join(f"pub mod {n}\n" for n in names))
+sys.exit(run())
