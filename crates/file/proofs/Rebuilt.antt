@@ -9,7 +9,9 @@ use mathlib.Core.Option.{Option, some, none}
 use Prim.Native.Nat.{ℕ, suc, _+_, _<_}
 use borrow.Author.Tests.{eqb-true}
 use lib.Dec.{T, eqb}
+use native.Mathlib.Omega.{arith}
 use lib.ListN.{length}
+use lib.Seq.{take-all}
 use Rattle.token.specs.Regex.{bytes as ascii}
 use Rattle.token.specs.Patterns.{token, words, marks, shapes, wordRule, rest}
 use Rattle.token.specs.Code.{code, is, among}
@@ -99,7 +101,7 @@ use Rattle.parser.proofs.Wf as W
 use Rattle.parser.proofs.Wf.{most, Tok}
 use Rattle.writer.proofs.Toks.{Good}
 use Rattle.file.specs.Agree.{Shape, shape, no-shape, bytesCount, noteBytes, shapeOf, shapesOf}
-use Rattle.file.proofs.Keyword.{only, none-has, keyword-bytes}
+use Rattle.token.proofs.Keyword.{only, none-has, keyword-bytes, hit-first}
 use Rattle.file.proofs.Rebuild.{
   kindBy,
   spelled,
@@ -179,7 +181,7 @@ word-back : (j : Token) (v : List ℕ) → T (only (code j) v words) → T (none
 unfolding bytes kind
 word-back j v o n {t = lexeme k w l} g =
     let e : code k ≡ code j = one-code k j (g .kinds) in
-    ap spelled (sym (keyword-bytes v w k (rw e o) (rw e n) (g .good .scanned))) ∙ spelled-back g
+    ap spelled (sym (keyword-bytes v w k (rw e o) (rw e n) (rw (take-all (length w) w (omega arith)) at (hit-first w k (length w) (g .good .scanned))))) ∙ spelled-back g
 
 list-back : {t : Lexeme} → Tok Good (T.List ∷ []) t → spelled (ascii "list") ≡ bareL t
 unfolding only none-has words rest marks shapes wordRule token ascii code same

@@ -10,6 +10,7 @@ use mathlib.Core.List.{List, [], _∷_, _++_}
 use Prim.Native.Nat.{ℕ, suc, zero, _-_}
 use lib.Dec.{ltb}
 use lib.ListN.{length, take, replicate}
+use lib.Seq.{take-append-seam}
 use Rattle.lexer.specs.declared.Checked.{Checked}
 use Rattle.lexer.specs.declared.Checked.the-variants as C
 use Rattle.lexer.specs.Check.{checked}
@@ -69,10 +70,6 @@ unfolding gives answers reading printing R.answer W.answer rowsBy printOf
 gives-answers indent (reads ns cs) f ds e = rw (accepts-reads indent f ds e .reads) refl
 gives-answers indent (prints ns cs out) f ds e = rw e refl
 
-take-all : (p r : List ℕ) → take (length p) (p ++ r) ≡ p
-take-all [] r = refl
-take-all (x ∷ p) r = ap (x ∷_) (take-all p r)
-
 -- the answer of a printing, by what it is lent
 kept-by : (x y z : Bool) (n c : ℕ) (p out f : List ℕ) →
     let a = cond x (Refused 24 0 0) (cond y (Refused 25 0 0) (cond z (Refused 27 0 0) (Accepted n c (length p)))) in
@@ -81,7 +78,7 @@ unfolding kept accepts W.written
 kept-by true y z n c p out f = refl
 kept-by false true z n c p out f = refl
 kept-by false false true n c p out f = refl
-kept-by false false false n c p out f = take-all p _
+kept-by false false false n c p out f = take-append-seam p _
 
 pub leaves-print : (indent : ℕ) (c : Call) (f : List ℕ) (ds : List Definition) →
     leaves (answers indent c ds) f ≡ cond (printsIt (answers indent c ds)) (printed indent ds) f
@@ -100,10 +97,10 @@ cond-again false false p t = refl
 
 module _ (indent : ℕ) (t : List ℕ) (ds again : List Definition) (first : Accepts indent t ds) (second : Accepts indent (printed indent ds) again)
     (alike : printed indent again ≡ printed indent ds) (self : Agree ds ds) (agrees : Agree again ds) where
-  file : Bool → List ℕ
+  unfoldable pub file : Bool → List ℕ
   file after = cond after (printed indent ds) t
 
-  found : Bool → List Definition
+  unfoldable pub found : Bool → List Definition
   found after = cond after again ds
 
   file-accepted : (after : Bool) → Accepts indent (file after) (found after)
@@ -116,12 +113,12 @@ module _ (indent : ℕ) (t : List ℕ) (ds again : List Definition) (first : Acc
   file-agrees true = agrees
   file-agrees false = self
 
-  file-print : (after : Bool) → printed indent (found after) ≡ printed indent ds
+  pub file-print : (after : Bool) → printed indent (found after) ≡ printed indent ds
   unfolding found
   file-print true = alike
   file-print false = refl
 
-  given : (after : Bool) (c : Call) → gives indent c (file after) ≡ answers indent c (found after)
+  pub given : (after : Bool) (c : Call) → gives indent c (file after) ≡ answers indent c (found after)
   given after c = gives-answers indent c (file after) (found after) (file-accepted after)
 
   left-by : (after : Bool) (c : Call) → leaves (gives indent c (file after)) (file after) ≡ cond (printsIt (gives indent c (file after))) (printed indent ds) (file after)
@@ -142,7 +139,7 @@ module _ (indent : ℕ) (t : List ℕ) (ds again : List Definition) (first : Acc
         same-bytes = λ e. left-by after c ∙ written-by _ (printed indent ds) (file after) e;
       }
 
-  onward : (after : Bool) (c : Call) → leaves (gives indent c (file after)) (file after) ≡ file (after || printsIt (gives indent c (file after)))
+  pub onward : (after : Bool) (c : Call) → leaves (gives indent c (file after)) (file after) ≡ file (after || printsIt (gives indent c (file after)))
   onward after c = left-by after c ∙ unfold file in cond-again after (printsIt (gives indent c (file after))) (printed indent ds) t
 
   stays-from : (cs : List Call) (after : Bool) → Stays indent t ds after (trace indent cs (file after))

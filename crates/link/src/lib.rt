@@ -4,9 +4,11 @@ ghost use mathlib.Core.List.{[], _∷_};
 ghost use lib.ListN.{getD};
 ghost use Rattle.lexer.specs.Check.{checked, refusal};
 ghost use Rattle.parser.specs.Read.{numbers, reading};
-ghost use Rattle.link.specs.Told.{atFront};
+ghost use Rattle.writer.specs.Write.{printing};
+ghost use Rattle.link.specs.Told.{atFront, four};
 use lexer::Checked;
 use parser::Answer;
+use writer::Printed;
 
 // The number of a text's refusal by the checks before the grammar (20, 21, 22), 0 where there is none.
 #[no_mangle]
@@ -23,7 +25,7 @@ pub extern "C" fn hirvelan_check(text: &[u8]) -> u32
 
 // Puts three numbers at the front of a slice that holds them.
 fn put_numbers(answer: &mut [u32], a: u32, b: u32, c: u32)
-    ensures { λ _. ⌜ now (answer .exit) ≡ atFront (a ∷ b ∷ c ∷ []) (now (answer .entry)) ⌝ }
+    ensures { λ _. ⌜ now (answer .exit) ≡ atFront 3 (a ∷ b ∷ c ∷ []) (now (answer .entry)) ⌝ }
 {
     if answer.len() < 3 {
         return;
@@ -43,7 +45,7 @@ pub extern "C" fn hirvelan_read(
 )
     ensures { λ _. ⌜ (now (nodes .exit) ≡ reading (now (text .entry)) (now (nodes .entry)) (now (comments .entry)) .nodes)
         × (now (comments .exit) ≡ reading (now (text .entry)) (now (nodes .entry)) (now (comments .entry)) .comments)
-        × (now (answer .exit) ≡ atFront (numbers (reading (now (text .entry)) (now (nodes .entry)) (now (comments .entry)) .says)) (now (answer .entry))) ⌝ }
+        × (now (answer .exit) ≡ atFront 3 (numbers (reading (now (text .entry)) (now (nodes .entry)) (now (comments .entry)) .says)) (now (answer .entry))) ⌝ }
 {
     match parser::read(text, nodes, comments) {
         Answer::Accepted {
@@ -58,6 +60,52 @@ pub extern "C" fn hirvelan_read(
             length,
         } => {
             put_numbers(answer, number, place, length);
+        }
+    }
+}
+
+// Puts four numbers at the front of a slice that holds them.
+fn put_four(answer: &mut [u64], a: u64, b: u64, c: u64, d: u64)
+    ensures { λ _. ⌜ now (answer .exit) ≡ atFront 4 (a ∷ b ∷ c ∷ d ∷ []) (now (answer .entry)) ⌝ }
+{
+    if answer.len() < 4 {
+        return;
+    }
+    answer[0] = a;
+    answer[1] = b;
+    answer[2] = c;
+    answer[3] = d;
+}
+
+// Prints a text at an indent. The answer's four numbers: 0, the counts of nodes and of comments and the bytes written, or a refusal's number, place and length, and 0.
+#[no_mangle]
+pub extern "C" fn hirvelan_print(
+    text: &[u8],
+    indent: u32,
+    nodes: &mut [u32],
+    comments: &mut [u32],
+    out: &mut [u8],
+    answer: &mut [u64],
+)
+    ensures { λ _. ⌜ (now (nodes .exit) ≡ printing (now (text .entry)) indent (now (nodes .entry)) (now (comments .entry)) (now (out .entry)) .nodes)
+        × (now (comments .exit) ≡ printing (now (text .entry)) indent (now (nodes .entry)) (now (comments .entry)) (now (out .entry)) .comments)
+        × (now (out .exit) ≡ printing (now (text .entry)) indent (now (nodes .entry)) (now (comments .entry)) (now (out .entry)) .output)
+        × (now (answer .exit) ≡ atFront 4 (four (printing (now (text .entry)) indent (now (nodes .entry)) (now (comments .entry)) (now (out .entry)) .says)) (now (answer .entry))) ⌝ }
+{
+    match printer::print(text, indent, nodes, comments, out) {
+        Printed::Accepted {
+            nodes: n,
+            comments: c,
+            bytes,
+        } => {
+            put_four(answer, 0, n as u64, c as u64, bytes as u64);
+        }
+        Printed::Refused {
+            number,
+            place,
+            length,
+        } => {
+            put_four(answer, number as u64, place as u64, length as u64, 0);
         }
     }
 }

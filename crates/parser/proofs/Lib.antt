@@ -4,6 +4,7 @@ pub mod Same
 pub mod Wf
 pub mod Sure
 pub mod Ended
+pub mod Lexemes
 pub mod Paid
 pub mod Idl
 pub mod Chain

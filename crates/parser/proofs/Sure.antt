@@ -131,12 +131,12 @@ final l (t ∷ ts) = final (place t) ts
 
 -- ---- kinds
 
-single : (k j : Token) → is k j ≡ true → among k (j ∷ []) ≡ true
+pub single : (k j : Token) → is k j ≡ true → among k (j ∷ []) ≡ true
 unfolding among
 single k j e = rw e
 
 -- a container's keyword that is neither of the others
-third : (k : Token) → among k containerTypes ≡ true → is k T.List ≡ false → is k T.Set ≡ false → among k (T.Map ∷ []) ≡ true
+pub third : (k : Token) → among k containerTypes ≡ true → is k T.List ≡ false → is k T.Set ≡ false → among k (T.Map ∷ []) ≡ true
 unfolding among
 third k e f g = rw (f, g) at e
 

@@ -9,3 +9,4 @@ pub mod Matching
 pub mod Meaning
 pub mod Stable
 pub mod Examples
+pub mod Keyword

@@ -37,6 +37,12 @@ unfoldable pub answer : ℕ → Outcome → List ℕ → List ℕ → List ℕ �
 answer indent (read ds) nodes comments out = fitted indent ds nodes comments out
 answer indent (refused e p n) nodes comments out = Refused e p n
 
+-- document 01's numbers of an answer: 0, the counts and the bytes written, or the refusal's number, place and length
+unfoldable pub numbers : Printed → List ℕ
+numbers (Accepted n c b) = 0 ∷ n ∷ c ∷ b ∷ []
+numbers (Refused e p n) = e ∷ p ∷ n ∷ []
+
+-- a table afterwards: filled where the printing is accepted, all 0 where it is refused
 unfoldable pub left : Printed → List (List ℕ) → List ℕ → List ℕ
 left (Accepted n c b) rs table = filled rs table
 left (Refused e p n) rs table = cleared table
@@ -57,13 +63,11 @@ pub record Printing : Type 0 where
   pub comments : List ℕ
   pub output : List ℕ
 
+abbrev pub told : Printed → List ℕ → List ℕ → List ℕ → Printing
+told a ns cs out = record { says = a; nodes = ns; comments = cs; output = out }
+
 unfoldable pub printing : List ℕ → ℕ → List ℕ → List ℕ → List ℕ → Printing
 printing t indent ns cs out =
     let o = outcomeAt indent (checked t) t in
     let a = answer indent o ns cs out in
-    record {
-      says = a;
-      nodes = left a (rowsBy nodeRows o) ns;
-      comments = left a (rowsBy notes o) cs;
-      output = written a (printOf indent o) out;
-    }
+    told a (left a (rowsBy nodeRows o) ns) (left a (rowsBy notes o) cs) (written a (printOf indent o) out)

@@ -5,7 +5,7 @@ pub enum Printed {
     Accepted {
         nodes: u32,
         comments: u32,
-        bytes: u32,
+        bytes: usize,
     },
     Refused {
         number: u32,

@@ -7,7 +7,7 @@ use Rattle.link.proofs.put_numbers.Statement.{statement}
 use Rattle.link.proofs.put_numbers.Tie as tie
 
 returns : tie.Need-returns
-returns c = put-short _ _ (c .if1 .taken)
+returns c = put-short 3 _ _ (c .if1 .taken)
 
 slice-write-answer-2 : tie.Need-slice-write-answer-2
 slice-write-answer-2 c = omega (arith, length-set (c .before .args .answer .now) 0 (c .before .args .a), c .if1 .left)

@@ -1,0 +1,29 @@
+-- `file::store` meets its contract. Assumes nothing.
+use borrow.Author.Needs.{needs}
+use Rattle.file.proofs.Stored.{store-refused, store-long, store-in}
+use Rattle.file.proofs.store.Statement.{statement}
+use Rattle.file.proofs.store.Tie as tie
+
+returns : tie.Need-returns
+returns c = store-refused _ _ _ _ _ _ _ (c .enum-told .given .1)
+
+returns-2 : tie.Need-returns-2
+returns-2 c = store-long _ _ _ _ _ _ _ (c .before .before .printed .given .1) (c .if1 .taken)
+
+copy-requires : tie.Need-copy-requires
+copy-requires c κs = (c .before .if1 .left, c .before .before .before .before .before .before .before .pre _ _ _ (c .before .before .before .printed .given .1))
+
+returns-3 : tie.Need-returns-3
+returns-3 c = store-in _ _ _ _ _ _ _ (c .before .before .before .before .before .before .printed .given .1) _ _ (c .before .before .before .before .if1 .left) (c .before .before .before .before .before .before .before .before .before .before .pre _ _ _ (c .before .before .before .before .before .before .printed .given .1)) (c .before .before .copy .ensures)
+
+pub store-spec : {M : Type 1} → statement M
+store-spec =
+    tie.close
+    (tie.spec
+    (λ c. search needs)
+    (λ c. search needs)
+    returns
+    returns-2
+    copy-requires
+    (λ c. search needs)
+    returns-3)

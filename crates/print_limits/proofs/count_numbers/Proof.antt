@@ -1,0 +1,32 @@
+-- `print_limits::count_numbers` meets its contract. The invariant: no more are counted than were looked at. Assumes nothing.
+use mathlib.Core.Logic.{⊎-elim}
+use Prim.Native.Nat.{_≤_, _-_}
+use native.Mathlib.Omega.{arith}
+use lib.ListN.{length}
+use borrow.Author.Needs.{needs}
+use Rattle.print_limits.proofs.count_numbers.Statement.{statement}
+use Rattle.print_limits.proofs.count_numbers.Tie as tie
+
+abbrev Inv-loop : tie.InvT-loop
+Inv-loop table start count₀ i₀ i-end count i = count ≤ i
+
+abbrev μ-loop : tie.MeasureT-loop
+μ-loop table start count₀ i₀ i-end count i = length table - i
+
+loop-again : tie.Need-loop-again Inv-loop μ-loop
+loop-again c = ⊎-elim (λ w. omega arith) (λ w. omega arith) (c .if1 .came)
+
+pub count-numbers-spec : {M : Type 1} → statement M
+count-numbers-spec =
+    tie.close
+    (tie.spec
+    Inv-loop
+    μ-loop
+    (λ c. search needs)
+    (λ c. search needs)
+    (λ c. search needs)
+    (λ c. search needs)
+    (λ c. search needs)
+    (λ c. search needs)
+    loop-again
+    (λ c. search needs))

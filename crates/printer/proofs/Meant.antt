@@ -1,0 +1,316 @@
+-- What the code prints is the print of the text's definitions.
+--     rows-under, notes-under   the rows of a tree, before others
+--     written-means             the tables of an accepted reading are written as the print
+--     print-means               the whole, for any text, indent, tables and output
+-- Assumes nothing.
+use mathlib.Core.Path.{_≡_, refl, sym, ap, ap₂, _∙_}
+use mathlib.Core.Logic.{_⊎_, inl, inr, ⊎-elim}
+use mathlib.Core.Bool.{Bool, true, false, cond}
+use mathlib.Core.Option.{Option, some, none}
+use mathlib.Core.List.{List, [], _∷_, _++_, append-nil, append-assoc}
+use Prim.Native.Nat.{ℕ, zero, suc, _+_, _*_, _-_, _/_, _≤_, _<_}
+use native.Mathlib.Omega.{arith}
+use lib.Dec.{ltb}
+use lib.ListN.{length, take, drop, replicate, length-append, length-drop, length-replicate}
+use lib.Seq.{take-append-seam}
+use borrow.Author.Tests.{ltb-true, ltb-false, lt-ltb, le-ltb}
+use Rattle.lexer.specs.declared.Checked.{Checked}
+use Rattle.lexer.specs.declared.Checked.the-variants as C
+use Rattle.lexer.specs.Location.{between, opening as opened}
+use Rattle.lexer.specs.Tokens.{Lexeme, tokens}
+use Rattle.lexer.specs.Check.{checked, limit, verdict}
+use Rattle.ast.specs.Lists.{All, anil, acons}
+use Rattle.ast.specs.Ast.{Definition}
+use Rattle.ast.specs.Tree.{Tree, node, Forest, bare, grown, each, definitionTree}
+use Rattle.ast.specs.Records.{
+  width,
+  noParent,
+  row,
+  size,
+  sizes,
+  rows,
+  rowsOf,
+  commentRow,
+  owned,
+  commentRows,
+  commentRowsOf,
+  forest,
+  nodeRows,
+  notes,
+  room,
+  concat,
+  filled,
+  cleared,
+}
+use Rattle.ast.proofs.Counts.{node-rows-wide, notes-wide, concat-width, filled-length, node-rows-size}
+use Rattle.parser.specs.Steps.{Res, ok, no, pos}
+use Rattle.parser.specs.declared.Answer.{Answer}
+use Rattle.parser.specs.declared.Answer.the-variants as A
+use Rattle.parser.specs.Read as R
+use Rattle.parser.specs.Read.{Outcome, read, refused, parsed, answered, outcomeBy, outcome, rowsBy, Reading, reading}
+use Rattle.parser.specs.Into.{wiped}
+use Rattle.parser.proofs.Lexemes.{Stands, tokens-stand, HasRule, tokens-ruled, EachDefinition, document-each}
+use Rattle.parser.proofs.Paid.{nodes-most, notes-most}
+use Rattle.writer.specs.Print.{Piece, bytesOf, pieces, printed}
+use Rattle.writer.specs.declared.Printed.{Printed}
+use Rattle.writer.specs.declared.Printed.the-variants.{Accepted, Refused}
+use Rattle.writer.specs.Write.{widest, outcomeAt, fitted, answer, left, written, printOf, Printing, told, printing}
+use Rattle.printer.specs.declared.cursor.Cursor.{Cursor}
+use Rattle.printer.specs.Onto.{Reached, reached, documentOut, opening, refusing, fits, ended, writing, byAnswer, byReading, all}
+use Rattle.printer.proofs.Ahead.{Rows, under, unders, ownedBefore, noted, noteds, Ahead, Fits, Over, Got, got, Job, At}
+use Rattle.printer.proofs.PrintedLeaves.{Good}
+use Rattle.printer.proofs.PrintedDefinitions.{document-printed}
+
+-- ---- rows
+
+mutual
+  unfolding under unders rows rowsOf
+
+  pub rows-under : (t : Tree) (q n : ℕ) (X : Rows) → rows t q n ++ X ≡ under t q n X
+  rows-under (node k f l w c ts) q n X = ap (λ (y : Rows). row k q f l ∷ y) (forest-under ts n (suc n) X)
+
+  pub forest-under : (ts : Forest) (q n : ℕ) (X : Rows) → rowsOf ts q n ++ X ≡ unders ts q n X
+  forest-under bare q n X = refl
+  forest-under (grown t ts) q n X =
+      append-assoc (rows t q n) (rowsOf ts q (n + size t)) X
+      ∙ ap (λ (y : Rows). rows t q n ++ y) (forest-under ts q (n + size t) X)
+      ∙ rows-under t q n (unders ts q (n + size t) X)
+
+owned-before : (n : ℕ) (c : List Lexeme) (X : Rows) → owned n c ++ X ≡ ownedBefore n c X
+unfolding owned ownedBefore
+owned-before n [] X = refl
+owned-before n (x ∷ c) X = ap (λ (y : Rows). commentRow n x ∷ y) (owned-before n c X)
+
+mutual
+  unfolding noted noteds commentRows commentRowsOf
+
+  notes-under : (t : Tree) (n : ℕ) (X : Rows) → commentRows t n ++ X ≡ noted t n X
+  notes-under (node k f l w c ts) n X =
+      append-assoc (owned n c) (commentRowsOf ts (suc n)) X ∙ ap (λ (y : Rows). owned n c ++ y) (notes-forest ts (suc n) X) ∙ owned-before n c (noteds ts (suc n) X)
+
+  notes-forest : (ts : Forest) (n : ℕ) (X : Rows) → commentRowsOf ts n ++ X ≡ noteds ts n X
+  notes-forest bare n X = refl
+  notes-forest (grown t ts) n X =
+      append-assoc (commentRows t n) (commentRowsOf ts (n + size t)) X
+      ∙ ap (λ (y : Rows). commentRows t n ++ y) (notes-forest ts (n + size t) X)
+      ∙ notes-under t n (noteds ts (n + size t) X)
+
+node-rows-under : (ds : List Definition) → nodeRows ds ≡ unders (each definitionTree ds bare) 4294967295 0 []
+unfolding nodeRows forest noParent
+node-rows-under ds = sym (append-nil (rowsOf (each definitionTree ds bare) 4294967295 0)) ∙ forest-under (each definitionTree ds bare) 4294967295 0 []
+
+notes-rows-under : (ds : List Definition) → notes ds ≡ noteds (each definitionTree ds bare) 0 []
+unfolding notes forest
+notes-rows-under ds = sym (append-nil (commentRowsOf (each definitionTree ds bare) 0)) ∙ notes-forest (each definitionTree ds bare) 0 []
+
+-- a filled table holds its rows
+ahead-filled : (rs X : Rows) (t : List ℕ) → rs ≡ X → Ahead (filled rs t) (length rs) 0 X
+unfolding filled width
+ahead-filled rs X t e =
+    record {
+      pad = replicate (length t - length (concat rs)) 0;
+      lies = ap (λ (y : Rows). concat y ++ replicate (length t - length (concat rs)) 0) e;
+      counts = let h : length X ≡ length rs = ap length (sym e) in omega (arith, h);
+    }
+
+-- rows that the table has room for
+fills : (rs : Rows) (t : List ℕ) → length (concat rs) ≡ length rs * width → ltb (room t) (length rs) ≡ false → length (filled rs t) ≡ length t
+unfolding room width
+fills rs t w e = filled-length rs t (omega (arith, ltb-false (length t / 9) (length rs) e, w))
+
+-- ---- what is lent and cleared again
+
+cleared-same : (t r : List ℕ) → length r ≡ length t → cleared r ≡ cleared t
+unfolding cleared
+cleared-same t r e = ap (λ (n : ℕ). replicate n 0) e
+
+cleared-twice : (t : List ℕ) → cleared (cleared t) ≡ cleared t
+unfolding cleared
+cleared-twice t = cleared-same t (replicate (length t) 0) (length-replicate (length t) 0)
+
+refusing-same : (e p n : ℕ) (t u o t′ u′ o′ : List ℕ) → length t′ ≡ length t → length u′ ≡ length u → length o′ ≡ length o →
+    refusing e p n t′ u′ o′ ≡ told (Refused e p n) (cleared t) (cleared u) (cleared o)
+unfolding refusing
+refusing-same e p n t u o t′ u′ o′ a b c = rw (cleared-same t t′ a, cleared-same u u′ b, cleared-same o o′ c)
+
+-- ---- the print in the output, or too long for it
+
+fits-in : (n c len : ℕ) (t u o o′ w : List ℕ) → len ≡ length w → length w ≤ length o → o′ ≡ w ++ drop (length w) o →
+    fits n c len t u o′ ≡ told (Accepted n c (length w)) t u (w ++ replicate (length o - length w) 0)
+unfolding fits wiped
+fits-in n c len t u o o′ w e h f =
+    let l : length (w ++ drop (length w) o) ≡ length o = length-append w (drop (length w) o) ∙ omega (arith, length-drop (length w) o, h) in
+    rw (e, f, l, le-ltb (length o) (length w) h, take-append-seam w (drop (length w) o))
+
+fits-over : (n c len : ℕ) (t u o o′ t′ u′ : List ℕ) → length o < len → length o′ ≡ length o → length t ≡ length t′ → length u ≡ length u′ →
+    fits n c len t u o′ ≡ told (Refused 27 0 0) (cleared t′) (cleared u′) (cleared o)
+unfolding fits
+fits-over n c len t u o o′ t′ u′ h e a b = rw (lt-ltb (length o′) len (omega (arith, h, e))) (refusing-same 27 0 0 t′ u′ o t u o′ a b e)
+
+-- ---- the tokens
+
+good-tokens : (text : List ℕ) {ts : List Lexeme} → All (Stands text) ts → All HasRule ts → All (Good text) ts
+good-tokens text anil anil = anil
+good-tokens text (acons p ps) (acons q qs) = acons (record { stands = p; ruled = q }) (good-tokens text ps qs)
+
+good-definitions : (text : List ℕ) (ds : List Definition) (r : Res (List Definition)) → parsed text ≡ r → answered r text ≡ read ds → All (EachDefinition (Good text)) ds
+unfolding parsed answered
+good-definitions text ds (ok es s) e a =
+    let x : es ≡ ds = cc in
+    let e : parsed text ≡ ok ds s = cc in
+    document-each (Good text) (between opened opened) (good-tokens text (tokens-stand text) (tokens-ruled text)) e
+good-definitions text ds (no n l) e a = let z : _≡_ {A = ℕ} 0 1 = cc in absurd (omega arith)
+
+-- ---- what was read is written
+
+module _ (text : List ℕ) (indent : ℕ) (t u o : List ℕ) (ds : List Definition) (found : outcome text ≡ read ds) (good : All (EachDefinition (Good text)) ds)
+    (t-room : ltb (room t) (length (nodeRows ds)) ≡ false) (u-room : ltb (room u) (length (notes ds)) ≡ false) where
+  abbrev job : Job
+  job =
+      record {
+        text = text;
+        nodes = filled (nodeRows ds) t;
+        count = length (nodeRows ds);
+        comments = filled (notes ds) u;
+        total = length (notes ds);
+        start = o;
+        whole = printed indent ds;
+        few = omega (arith, nodes-most text ds found);
+        brief = omega (arith, notes-most text ds found);
+      }
+
+  at-first : At job (pieces indent ds) 0 (unders (each definitionTree ds bare) 4294967295 0 []) (noteds (each definitionTree ds bare) 0 []) opening o
+  unfolding opening printed
+  at-first =
+      record {
+        node = refl;
+        nodes-ahead = ahead-filled (nodeRows ds) _ t (node-rows-under ds);
+        notes-ahead = ahead-filled (notes ds) _ u (notes-rows-under ds);
+        bytes = inl (record { done = []; all = refl; inside = omega arith; long = refl; out = refl });
+      }
+
+  t-long : length (filled (nodeRows ds) t) ≡ length t
+  t-long = fills (nodeRows ds) t (concat-width (node-rows-wide ds)) t-room
+
+  u-long : length (filled (notes ds) u) ≡ length u
+  u-long = fills (notes ds) u (concat-width (notes-wide ds)) u-room
+
+  -- the answer, by whether the print fits
+  abbrev result : Printing
+  result =
+      cond (ltb (length o) (length (printed indent ds))) (told (Refused 27 0 0) (cleared t) (cleared u) (cleared o))
+      (told (Accepted (length (nodeRows ds)) (length (notes ds)) (length (printed indent ds))) (filled (nodeRows ds) t) (filled (notes ds) u)
+      (printed indent ds ++ replicate (length o - length (printed indent ds)) 0))
+
+  inside : (n : ℕ) (o′ : List ℕ) → Fits o (printed indent ds) [] n o′ →
+      fits (length (nodeRows ds)) (length (notes ds)) n (filled (nodeRows ds) t) (filled (notes ds) u) o′ ≡ result
+  inside n o′ f =
+      let e : f .done ≡ printed indent ds = sym (append-nil (f .done)) ∙ f .all in
+      let h : length (printed indent ds) ≤ length o = omega (arith, f .inside, ap length e) in
+      rw (le-ltb (length o) (length (printed indent ds)) h)
+      (fits-in _ _ n _ _ o o′ (printed indent ds) (f .long ∙ ap length e) h (f .out ∙ ap (λ (x : List ℕ). x ++ drop (length x) o) e))
+
+  beyond : (n : ℕ) (o′ : List ℕ) → Over o (printed indent ds) [] n o′ →
+      fits (length (nodeRows ds)) (length (notes ds)) n (filled (nodeRows ds) t) (filled (notes ds) u) o′ ≡ result
+  beyond n o′ f =
+      let e : f .done ≡ printed indent ds = sym (append-nil (f .done)) ∙ f .all in
+      rw (lt-ltb (length o) (length (printed indent ds)) (omega (arith, f .beyond, ap length e)))
+      (fits-over _ _ n _ _ o o′ t u (omega (arith, f .long)) (f .out) t-long u-long)
+
+  at-last : {i : Reached} {k : ℕ} → Got (At job [] k [] []) i → ended i (length (nodeRows ds)) (length (notes ds)) (filled (nodeRows ds) t) (filled (notes ds) u) ≡ result
+  unfolding ended bytesOf
+  at-last (got {p = p} {o = o′} a) = ⊎-elim (inside (p .length) o′) (beyond (p .length) o′) (a .bytes)
+
+  written-means : writing text indent (length (nodeRows ds)) (length (notes ds)) (filled (nodeRows ds) t) (filled (notes ds) u) o ≡ result
+  unfolding writing pieces
+  written-means = at-last (document-printed job indent ds opening o good at-first)
+
+-- ---- the whole
+
+good-outcome : (text : List ℕ) (ds : List Definition) → outcome text ≡ read ds → All (EachDefinition (Good text)) ds
+unfolding outcome outcomeBy
+good-outcome text ds e = go (checked text) e
+  where
+    never : {e p n : ℕ} → refused e p n ≡ read ds → All (EachDefinition (Good text)) ds
+    never a = let z : _≡_ {A = ℕ} 0 1 = cc in absurd (omega arith)
+
+    go : (c : Checked) → outcomeBy c text ≡ read ds → All (EachDefinition (Good text)) ds
+    go C.Fine a = good-definitions text ds (parsed text) refl a
+    go C.TooLong a = never a
+    go (C.IllFormed p) a = never a
+    go (C.Unrecognized p) a = never a
+
+module _ (text : List ℕ) (indent : ℕ) (t u o : List ℕ) where
+  -- what a printing gives for an outcome of the reading
+  abbrev given : Outcome → Printing
+  given x =
+      let a = answer indent x t u o in
+      told a (left a (rowsBy nodeRows x) t) (left a (rowsBy notes x) u) (written a (printOf indent x) o)
+
+  by-length : (b : Bool) (n c : ℕ) (rs ss : Rows) (w : List ℕ) →
+      cond b (told (Refused 27 0 0) (cleared t) (cleared u) (cleared o)) (told (Accepted n c (length w)) (filled rs t) (filled ss u) (w ++ replicate (length o - length w) 0))
+      ≡ (let a = cond b (Refused 27 0 0) (Accepted n c (length w)) in told a (left a rs t) (left a ss u) (written a w o))
+  unfolding left written
+  by-length true n c rs ss w = refl
+  by-length false n c rs ss w = refl
+
+  refused-given : (e p n : ℕ) → refusing e p n (cleared t) (cleared u) o ≡ told (Refused e p n) (cleared t) (cleared u) (cleared o)
+  unfolding refusing
+  refused-given e p n = rw (cleared-twice t, cleared-twice u)
+
+  read-given : (ds : List Definition) → outcome text ≡ read ds → All (EachDefinition (Good text)) ds →
+      let a = R.fitted ds t u in byAnswer a text indent (R.left a (nodeRows ds) t) (R.left a (notes ds) u) o ≡ given (read ds)
+  unfolding R.fitted R.left byAnswer answer fitted left written rowsBy printOf
+  read-given ds found good = go (ltb (room t) (length (nodeRows ds))) refl (ltb (room u) (length (notes ds))) refl
+    where
+      go : (a : Bool) → ltb (room t) (length (nodeRows ds)) ≡ a → (b : Bool) → ltb (room u) (length (notes ds)) ≡ b →
+          let a = R.fitted ds t u in byAnswer a text indent (R.left a (nodeRows ds) t) (R.left a (notes ds) u) o ≡ given (read ds)
+      go true h b k = rw h (refused-given 24 0 0)
+      go false h true k = rw (h, k) (refused-given 25 0 0)
+      go false h false k =
+          rw (h, k)
+          (written-means text indent t u o ds found good h k
+          ∙ by-length (ltb (length o) (length (printed indent ds))) (length (nodeRows ds)) (length (notes ds)) (nodeRows ds) (notes ds) (printed indent ds))
+
+  outcome-given : (x : Outcome) → outcome text ≡ x → byReading (reading text t u) text indent o ≡ given x
+  unfolding reading byReading R.answer R.left byAnswer rowsBy answer left written
+  outcome-given (read ds) e = rw e (read-given ds e (good-outcome text ds e))
+  outcome-given (refused n p l) e = rw e (refused-given n p l)
+
+  -- 26 is not told of a text that is too long
+  never : (a b : Option ℕ) → verdict a b ≡ C.TooLong → ⊥
+  unfolding verdict
+  never (some p) b e = let z : _≡_ {A = ℕ} 0 1 = cc in omega arith
+  never none (some p) e = let z : _≡_ {A = ℕ} 0 1 = cc in omega arith
+  never none none e = let z : _≡_ {A = ℕ} 0 1 = cc in omega arith
+
+  wide-given : (x : Checked) → (x ≡ C.TooLong → ⊥) → ltb 8 indent ≡ true → refusing 26 0 0 t u o ≡ given (outcomeAt indent x text)
+  unfolding outcomeAt widest answer left written refusing
+  wide-given C.TooLong n h = absurd (n refl)
+  wide-given C.Fine n h = rw h
+  wide-given (C.IllFormed p) n h = rw h
+  wide-given (C.Unrecognized p) n h = rw h
+
+  narrow-given : (x : Checked) → ltb 8 indent ≡ false → outcomeAt indent x text ≡ outcomeBy x text
+  unfolding outcomeAt widest outcomeBy
+  narrow-given C.TooLong h = refl
+  narrow-given C.Fine h = rw h
+  narrow-given (C.IllFormed p) h = rw h
+  narrow-given (C.Unrecognized p) h = rw h
+
+  all-narrow : ltb 65536 (length text) ≡ false → ltb 8 indent ≡ false → all text indent t u o ≡ byReading (reading text t u) text indent o
+  unfolding all
+  all-narrow h k = rw (h, k)
+
+  narrow : ltb 8 indent ≡ false → byReading (reading text t u) text indent o ≡ printing text indent t u o
+  unfolding printing outcome
+  narrow k = outcome-given (outcome text) refl ∙ ap given (sym (narrow-given (checked text) k))
+
+  pub print-means : all text indent t u o ≡ printing text indent t u o
+  unfolding all printing checked limit outcomeAt answer left written refusing
+  print-means = go (ltb 65536 (length text)) refl (ltb 8 indent) refl
+    where
+      go : (a : Bool) → ltb 65536 (length text) ≡ a → (b : Bool) → ltb 8 indent ≡ b → all text indent t u o ≡ printing text indent t u o
+      go true h b k = rw h refl
+      go false h true k = rw (h, k) (wide-given _ (never _ _) k)
+      go false h false k = all-narrow h k ∙ narrow k

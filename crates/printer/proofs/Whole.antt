@@ -1,0 +1,44 @@
+-- The writing of both tables, and the whole printing, in code.
+--     written-is                   what the writing of the document left, if it fits
+--     all-long, all-wide           20 and 26
+--     all-refused, all-accepted    the reading refused the text, and the reading accepted it
+-- Assumes nothing.
+use mathlib.Core.Path.{_≡_, sym, ap, _∙_}
+use mathlib.Core.List.{List}
+use Prim.Native.Nat.{ℕ, _≤_, _<_}
+use borrow.Author.Tests.{lt-ltb, le-ltb}
+use lib.ListN.{length}
+use Rattle.parser.specs.declared.Answer.{Answer}
+use Rattle.parser.specs.declared.Answer.the-variants as A
+use Rattle.parser.specs.Read.{Reading, reading}
+use Rattle.parser.specs.Into.{told as read-told}
+use Rattle.writer.specs.Write.{Printing}
+use Rattle.printer.specs.declared.cursor.Cursor.{Cursor}
+use Rattle.printer.specs.Onto.{Reached, reached, documentOut, opening, refusing, fits, ended, writing, byAnswer, byReading, all}
+
+pub written-is : (text : List ℕ) (indent n c : ℕ) (t u o o′ : List ℕ) (p : Cursor) (r : Printing)
+    → reached p o′ ≡ documentOut text t n u c indent (record { node = 0; comment = 0; length = 0 }) o → r ≡ fits n c (p .length) t u o′ → r ≡ writing text indent n c t u o
+unfolding writing ended opening
+written-is text indent n c t u o o′ p r e f = f ∙ ap (λ (i : Reached). ended i n c t u) e
+
+module _ (text : List ℕ) (indent : ℕ) (t u o : List ℕ) where
+  pub all-long : 65536 < length text → refusing 20 0 0 t u o ≡ all text indent t u o
+  unfolding all
+  all-long h = rw (lt-ltb _ _ h)
+
+  pub all-wide : length text ≤ 65536 → 8 < indent → refusing 26 0 0 t u o ≡ all text indent t u o
+  unfolding all
+  all-wide h k = rw (le-ltb _ _ h, lt-ltb _ _ k)
+
+  module _ (h : length text ≤ 65536) (k : indent ≤ 8) (a : Answer) (t₁ u₁ : List ℕ) (e : read-told a t₁ u₁ ≡ reading text t u) where
+    all-read : byAnswer a text indent t₁ u₁ o ≡ all text indent t u o
+    unfolding all byReading read-told
+    all-read = ap (λ (r : Reading). byReading r text indent o) e ∙ rw (le-ltb _ _ h, le-ltb _ _ k)
+
+    pub all-refused : (n p l : ℕ) → a ≡ A.Refused n p l → refusing n p l t₁ u₁ o ≡ all text indent t u o
+    unfolding byAnswer
+    all-refused n p l f = ap (λ (x : Answer). byAnswer x text indent t₁ u₁ o) (sym f) ∙ all-read
+
+    pub all-accepted : (n c : ℕ) → a ≡ A.Accepted n c → writing text indent n c t₁ u₁ o ≡ all text indent t u o
+    unfolding byAnswer
+    all-accepted n c f = ap (λ (x : Answer). byAnswer x text indent t₁ u₁ o) (sym f) ∙ all-read

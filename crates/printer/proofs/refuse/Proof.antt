@@ -1,0 +1,22 @@
+-- `printer::refuse` meets its contract. Assumes nothing.
+use borrow.Author.Needs.{needs}
+use Rattle.printer.specs.Onto.{refusing}
+use Rattle.parser.proofs.Cells.{wipe-all}
+use Rattle.printer.proofs.refuse.Statement.{statement}
+use Rattle.printer.proofs.refuse.Tie as tie
+
+returns : tie.Need-returns
+unfolding refusing
+returns c = rw (c .before .before .before .before .before .before .before .before .before .before .clear-numbers .ensures, c .before .before .before .before .before .before .clear-numbers2 .ensures, c .before .before .clear .ensures, wipe-all)
+
+pub refuse-spec : {M : Type 1} → statement M
+refuse-spec =
+    tie.close
+    (tie.spec
+    (λ c κs. search needs)
+    (λ c κs. search needs)
+    (λ c κs. search needs)
+    (λ c. search needs)
+    (λ c. search needs)
+    (λ c. search needs)
+    returns)

@@ -1,0 +1,129 @@
+// From a text and its tables to its print.
+mod cursor;
+mod document;
+
+ghost use mathlib.Core.Path.{_≡_};
+ghost use Prim.Native.Nat.{_≤_};
+ghost use lib.ListN.{length};
+ghost use Rattle.ast.specs.Records.{cleared};
+ghost use Rattle.parser.specs.Into.{wiped};
+ghost use Rattle.writer.specs.Write.{told, printing};
+ghost use Rattle.printer.specs.Onto.{refusing, fits, writing};
+use cursor::Cursor;
+use parser::Answer;
+use writer::Printed;
+
+// Bytes become 0 from an index on.
+fn clear(bytes: &mut [u8], from: usize)
+    requires { ⌜ from ≤ length (now bytes) ⌝ }
+    ensures { λ _. ⌜ now (bytes .exit) ≡ wiped from (now (bytes .entry)) ⌝ }
+{
+    let mut i = from;
+    while i < bytes.len() {
+        bytes[i] = 0;
+        i += 1;
+    }
+}
+
+// All numbers of a table become 0.
+fn clear_numbers(table: &mut [u32])
+    ensures { λ _. ⌜ now (table .exit) ≡ cleared (now (table .entry)) ⌝ }
+{
+    let mut i: usize = 0;
+    while i < table.len() {
+        table[i] = 0;
+        i += 1;
+    }
+}
+
+fn refuse(
+    number: u32,
+    place: u32,
+    length: u32,
+    nodes: &mut [u32],
+    comments: &mut [u32],
+    out: &mut [u8],
+) -> Printed
+    ensures { λ r. ⌜ told r (now (nodes .exit)) (now (comments .exit)) (now (out .exit)) ≡ refusing number place length (now (nodes .entry)) (now (comments .entry)) (now (out .entry)) ⌝ }
+{
+    clear_numbers(nodes);
+    clear_numbers(comments);
+    clear(out, 0);
+    Printed::Refused {
+        number,
+        place,
+        length,
+    }
+}
+
+// What was printed, if the output held it: else 27.
+fn fit(
+    n: u32,
+    c: u32,
+    bytes: usize,
+    nodes: &mut [u32],
+    comments: &mut [u32],
+    out: &mut [u8],
+) -> Printed
+    ensures { λ r. ⌜ told r (now (nodes .exit)) (now (comments .exit)) (now (out .exit)) ≡ fits n c bytes (now (nodes .entry)) (now (comments .entry)) (now (out .entry)) ⌝ }
+{
+    if out.len() < bytes {
+        return refuse(27, 0, 0, nodes, comments, out);
+    }
+    clear(out, bytes);
+    Printed::Accepted {
+        nodes: n,
+        comments: c,
+        bytes,
+    }
+}
+
+// Writes the definitions of both tables.
+fn write(
+    text: &[u8],
+    indent: u32,
+    n: u32,
+    c: u32,
+    nodes: &mut [u32],
+    comments: &mut [u32],
+    out: &mut [u8],
+) -> Printed
+    ensures { λ r. ⌜ told r (now (nodes .exit)) (now (comments .exit)) (now (out .exit)) ≡ writing (now (text .entry)) indent n c (now (nodes .entry)) (now (comments .entry)) (now (out .entry)) ⌝ }
+{
+    let at = Cursor {
+        node: 0,
+        comment: 0,
+        length: 0,
+    };
+    let behind = document::write_document(text, nodes, n, comments, c, out, at, indent);
+    fit(n, c, behind.length, nodes, comments, out)
+}
+
+// Prints a text at an indent: reads it into both tables, then writes its definitions.
+pub fn print(
+    text: &[u8],
+    indent: u32,
+    nodes: &mut [u32],
+    comments: &mut [u32],
+    out: &mut [u8],
+) -> Printed
+    ensures { λ r. ⌜ told r (now (nodes .exit)) (now (comments .exit)) (now (out .exit)) ≡ printing (now (text .entry)) indent (now (nodes .entry)) (now (comments .entry)) (now (out .entry)) ⌝ }
+{
+    if 65536 < text.len() {
+        return refuse(20, 0, 0, nodes, comments, out);
+    }
+    if 8 < indent {
+        return refuse(26, 0, 0, nodes, comments, out);
+    }
+    match parser::read(text, nodes, comments) {
+        Answer::Refused {
+            number,
+            place,
+            length,
+        } => refuse(number, place, length, nodes, comments, out),
+        Answer::Accepted {
+            nodes: n,
+            comments: c,
+        } => write(text, indent, n, c, nodes, comments, out),
+    }
+}
