@@ -90,7 +90,7 @@ row-width k p f l = refl
 abbrev pub Wide : List ℕ → Type 0
 Wide r = length r ≡ width
 
-pub append-all : {W : List ℕ → Type 0} {xs ys : List (List ℕ)} → All W xs → All W ys → All W (xs ++ ys)
+pub append-all : {A : Type 0} {W : A → Type 0} {xs ys : List A} → All W xs → All W ys → All W (xs ++ ys)
 append-all anil h = h
 append-all (acons g gs) h = acons g (append-all gs h)
 

@@ -21,7 +21,7 @@ use Rattle.lexer.specs.Check.{checked}
 use Rattle.ast.specs.Records.{nodeRows, notes, room}
 use Rattle.parser.specs.declared.Answer.{Answer}
 use Rattle.parser.specs.Read.{Outcome, read, refused, Reading, reading}
-use Rattle.parser.specs.Into.{told as read-told}
+use Rattle.parser.specs.Read.{told as read-told}
 use Rattle.writer.specs.Print.{printed}
 use Rattle.writer.specs.declared.Printed.{Printed}
 use Rattle.writer.specs.declared.Printed.the-variants.{Accepted, Refused}
@@ -84,7 +84,6 @@ pub read-is : (space ns cs ns′ cs′ : List ℕ) (file a b n x y : ℕ) (r : A
     → read-told r ns′ cs′ ≡ reading (take n space) (take x ns) (take y cs)
     → let w = reading (take file space) (take a ns) (take b cs) in
     (ns′ ++ drop x ns ≡ w .nodes ++ drop a ns) × (cs′ ++ drop y cs ≡ w .comments ++ drop b cs)
-unfolding read-told
 read-is space ns cs ns′ cs′ file a b n x y r h k l e =
     let q : read-told r ns′ cs′ ≡ reading (take file space) (take a ns) (take b cs) =
     e ∙ rw (take-most n file space h, take-most x a ns k, take-most y b cs l) in (

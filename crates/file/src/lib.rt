@@ -38,7 +38,7 @@ fn read_file(space: &[u8], file: usize, nodes: &mut [u32], comments: &mut [u32],
     let n = at_most(file, space.len());
     let x = at_most(a, nodes.len());
     let y = at_most(b, comments.len());
-    parser::read(&space[..n], &mut nodes[..x], &mut comments[..y]);
+    reader::read(&space[..n], &mut nodes[..x], &mut comments[..y]);
 }
 
 // Makes the printed bytes the file, if its space holds them.

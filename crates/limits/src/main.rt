@@ -42,7 +42,7 @@ fn write_table(table: &[u32]) {
 
 // Reads a text with tables of so many numbers.
 fn try_tables(text: &[u8], nodes: &mut [u32], comments: &mut [u32]) {
-    write_answer(parser::read(text, nodes, comments));
+    write_answer(reader::read(text, nodes, comments));
     write_table(nodes);
     write_table(comments);
     io::write_all(STDOUT_FILENO, b"\n");
@@ -64,7 +64,7 @@ fn try_small(text: &[u8], nodes: usize, comments: usize)
 fn try_long(text: &[u8]) {
     let mut nodes: [u32; 3600] = [7; 3600];
     let mut comments: [u32; 0] = [];
-    write_answer(parser::read(text, &mut nodes, &mut comments));
+    write_answer(reader::read(text, &mut nodes, &mut comments));
     io::write_all(STDOUT_FILENO, b"\n");
 }
 

@@ -8,8 +8,7 @@ use lib.Dec.{ltb}
 use lib.ListN.{length, set, drop}
 use borrow.Author.Tests.{lt-ltb, le-ltb}
 use Rattle.parser.specs.declared.Answer.{Answer}
-use Rattle.parser.specs.Read.{Reading, numbers}
-use Rattle.parser.specs.Into.{told}
+use Rattle.parser.specs.Read.{Reading, told, numbers}
 use Rattle.writer.specs.declared.Printed.{Printed}
 use Rattle.writer.specs.Write.{Printing}
 use Rattle.writer.specs.Write.{told as print-told}
@@ -42,15 +41,12 @@ put-four a w x y z h = rw (le-ltb (length a) 4 h) (stores-four a w x y z h)
 
 module _ (a : Answer) (t u : List ℕ) (r : Reading) (e : told a t u ≡ r) where
   pub read-nodes : t ≡ r .nodes
-  unfolding told
   read-nodes = ap (λ (x : Reading). x .nodes) e
 
   pub read-comments : u ≡ r .comments
-  unfolding told
   read-comments = ap (λ (x : Reading). x .comments) e
 
   pub read-answer : (b : Answer) (l l′ ns : List ℕ) → a ≡ b → numbers b ≡ ns → l′ ≡ atFront 3 ns l → l′ ≡ atFront 3 (numbers (r .says)) l
-  unfolding told
   read-answer b l l′ ns h n k = k ∙ ap (λ (x : List ℕ). atFront 3 x l) (sym n ∙ ap numbers (sym h ∙ ap (λ (q : Reading). q .says) e))
 
 module _ (a : Printed) (t u o : List ℕ) (r : Printing) (e : print-told a t u o ≡ r) where

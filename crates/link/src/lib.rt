@@ -47,7 +47,7 @@ pub extern "C" fn hirvelan_read(
         × (now (comments .exit) ≡ reading (now (text .entry)) (now (nodes .entry)) (now (comments .entry)) .comments)
         × (now (answer .exit) ≡ atFront 3 (numbers (reading (now (text .entry)) (now (nodes .entry)) (now (comments .entry)) .says)) (now (answer .entry))) ⌝ }
 {
-    match parser::read(text, nodes, comments) {
+    match reader::read(text, nodes, comments) {
         Answer::Accepted {
             nodes: n,
             comments: c,

@@ -45,7 +45,7 @@ fn write_refusal(number: u32, place: u32, length: u32) {
 fn write_reading(text: &[u8]) {
     let mut nodes: [u32; 8100] = [0; 8100];
     let mut comments: [u32; 4500] = [0; 4500];
-    match parser::read(text, &mut nodes, &mut comments) {
+    match reader::read(text, &mut nodes, &mut comments) {
         Answer::Refused {
             number,
             place,

@@ -1,4 +1,4 @@
--- Where the last token does not end at offset 1, places decide nothing of a document either; and a document that is accepted is such. Assumes nothing.
+-- Where the last token does not end at offset 1, places decide nothing of a document either. Assumes nothing.
 use mathlib.Core.Path.{_≡_, refl, ap, sym, _∙_}
 use mathlib.Core.Bool.{Bool, true, false}
 use mathlib.Core.List.{List, [], _∷_}
@@ -22,10 +22,6 @@ use Rattle.parser.proofs.Sure.{
   Sure,
   sure,
   refused,
-  sure-ok,
-  bind-s,
-  test-s,
-  fail-s,
   separator-s,
   comments-s,
   document-end-s,
@@ -97,41 +93,3 @@ module _ (l : LOC) (ts : List Lexeme) (far : Far (final l ts)) where
   unfolding bareS bares
   parse-same =
       document-ended nowhere (bares ts) (bare-far ts) ∙ document-same (pos l [] ts) ∙ ap (bareR forget) (sym (document-ended l ts far))
-
--- ---- what is accepted is far
-
-never : (l : LOC) → false ≡ true → Far l
-never l u = cc
-
-module _ (f : LOC) where
-  abbrev At : LOC → Type 0
-  At l = l ≡ f
-
-  over-far : {s : St} → GoodS Free At s → Sure Free At (λ b. b ≡ true → Far f) (D.over s)
-  unfolding D.over final
-  over-far (good {l = l} {c = d} c anil z) =
-      test-s Free At _ _ _ (pos l d []) (λ e. fail-s Free At 3 (pos l d [])) (λ e. sure (λ u. rw z at e) (good c anil z))
-  over-far (good c (acons h hs) z) = sure (never f) (good c (acons h hs) z)
-
-  end-far : {s : St} → GoodS Free At s → Sure Free At (λ b. b ≡ true → Far f) (documentEnd s)
-  unfolding documentEnd
-  end-far g =
-      bind-s Free At (separator-s Free At g) λ u s v g. bind-s Free At (comments-s Free At g) λ u s v g.
-      bind-s Free At (separator-s Free At g) λ u s v g. over-far g
-
-  loop-far : (n : ℕ) {s : St} → GoodS Free At s → Sure Free At (λ x. Far f) (loop [] _∷_ documentEnd parseDefinition n s)
-  unfolding loop
-  loop-far zero {s} g = fail-s Free At 3 s
-  loop-far (suc n) g =
-      bind-s Free At (end-far g) λ b s u g. test-s Free At b _ _ s (λ h. sure (u h) g)
-      (λ h. bind-s Free At (definition-s Free At s g) λ a s y g. bind-s Free At (loop-far n g) λ x s hx g. sure hx g)
-
-module _ (l : LOC) (ts : List Lexeme) (ds : List Definition) (s : St) (e : parseDocument (pos l [] ts) ≡ ok ds s) where
-  pub accepted-far : Far (final l ts)
-  unfolding parseDocument many
-  accepted-far = sure-ok Free (At (final l ts)) (rw e at (loop-far (final l ts) 65537 (good anil (free ts) refl)))
-
-  -- what is accepted is accepted without its places
-  pub accepted-same : parseDocument (bareS (pos l [] ts)) ≡ ok (forget ds) (bareS s)
-  unfolding bareR
-  accepted-same = parse-same l ts accepted-far ∙ ap (bareR forget) e

@@ -1,4 +1,4 @@
--- Kinds of tokens against their numbers, by tests over all 52.
+-- Kinds of tokens against their numbers, by tests over all 52; `agree`, `alike` and `Tests` are for the tests of the code (steps/proofs/SkipLaws, grammar/proofs/KindTests).
 --     same-kind           kinds of one number are one
 --     agree, alike        two functions of a kind that give the same at each of them
 --     Tests               a test of a number that says whether a kind is among these, and fails where no token is ahead
@@ -13,15 +13,11 @@ use lib.ListN.{getD}
 use Rattle.token.specs.Code.{code, is, among}
 use Rattle.token.specs.declared.Token.{Token}
 use Rattle.token.specs.declared.Token.the-variants as T
-use Rattle.ast.specs.Tree.{valueKind}
-use Rattle.parser.specs.Types.{leafTypes, containerTypes}
-use Rattle.parser.specs.Values.{leafValues, openers}
-use Rattle.parser.specs.Definitions.{separators, fieldNames}
-use Rattle.parser.specs.Into.{isSeparator, isComment, leafType, containerType, leafValue, isOpener, isFieldName, isEarlyName}
+use Rattle.parser.specs.Definitions.{separators}
 use Rattle.parser.proofs.Wf.{commentKinds}
 
 -- every kind, by its number
-abbrev kinds : List Token
+abbrev pub kinds : List Token
 kinds =
     T.Newline ∷ T.Namespace ∷ T.CppInclude ∷ T.Include ∷ T.Typedef ∷ T.Const ∷ T.Enum ∷ T.Struct ∷ T.Union ∷ T.Exception ∷ T.Service
     ∷ T.Extends ∷ T.Throws ∷ T.Required ∷ T.Optional ∷ T.Void ∷ T.Bool ∷ T.Byte ∷ T.I8 ∷ T.I16 ∷ T.I32 ∷ T.I64
@@ -90,7 +86,7 @@ same-kind k j h = sym (kind-at k) ∙ ap (λ (n : ℕ). getD kinds n T.Blank) (e
 
 -- ---- tests over all kinds
 
-all : (Token → Bool) → List Token → Bool
+unfoldable pub all : (Token → Bool) → List Token → Bool
 all f [] = true
 all f (k ∷ ks) = f k && all f ks
 
@@ -108,7 +104,7 @@ all-at f d e (k ∷ ks) (suc n) h = all-at f d e ks n (both-true (f k) (all f ks
 holds : (f : Token → Bool) → all f kinds ≡ true → f T.Blank ≡ true → (k : Token) → f k ≡ true
 holds f h e k = rw (kind-at k) at (all-at f T.Blank e kinds (code k) h)
 
-same : Bool → Bool → Bool
+unfoldable pub same : Bool → Bool → Bool
 same a b = cond a b (not b)
 
 same-true : (a b : Bool) → same a b ≡ true → a ≡ b
@@ -118,11 +114,11 @@ same-true true false h = absurd (false≢true h)
 same-true false true h = absurd (false≢true h)
 same-true false false h = refl
 
-agree : (f g : Token → Bool) → all (λ k. same (f k) (g k)) kinds ≡ true → same (f T.Blank) (g T.Blank) ≡ true → (k : Token) → f k ≡ g k
+pub agree : (f g : Token → Bool) → all (λ k. same (f k) (g k)) kinds ≡ true → same (f T.Blank) (g T.Blank) ≡ true → (k : Token) → f k ≡ g k
 agree f g h e k = same-true (f k) (g k) (holds (λ k. same (f k) (g k)) h e k)
 
 -- of the kinds of which c is true, the same number
-alike : (c : Token → Bool) (f g : Token → ℕ) → all (λ k. cond (c k) (eqb (f k) (g k)) true) kinds ≡ true
+pub alike : (c : Token → Bool) (f g : Token → ℕ) → all (λ k. cond (c k) (eqb (f k) (g k)) true) kinds ≡ true
     → cond (c T.Blank) (eqb (f T.Blank) (g T.Blank)) true ≡ true
     → (k : Token) → c k ≡ true → f k ≡ g k
 alike c f g h e k t = eqb-true (f k) (g k) (rw t at (holds (λ k. cond (c k) (eqb (f k) (g k)) true) h e k))
@@ -150,48 +146,6 @@ one-test j = record { agrees = λ k. or-false (eqb (code k) (code j)); fails = c
 pub one-kind : (k j : Token) → among k (j ∷ []) ≡ true → k ≡ j
 unfolding among
 one-kind k j h = same-kind k j (or-false (is k j) ∙ h)
-
-pub separator-test : Tests isSeparator separators
-unfolding all same code is among isSeparator
-separator-test = record { agrees = agree (λ k. isSeparator (code k)) (λ k. among k separators) refl refl; fails = refl }
-
-pub comment-test : Tests isComment commentKinds
-unfolding all same code is among isComment
-comment-test = record { agrees = agree (λ k. isComment (code k)) (λ k. among k commentKinds) refl refl; fails = refl }
-
-pub name-test : Tests isFieldName fieldNames
-unfolding all same code is among isFieldName isEarlyName
-name-test = record { agrees = agree (λ k. isFieldName (code k)) (λ k. among k fieldNames) refl refl; fails = refl }
-
-pub opener-test : Tests isOpener openers
-unfolding all same code is among isOpener
-opener-test = record { agrees = agree (λ k. isOpener (code k)) (λ k. among k openers) refl refl; fails = refl }
-
--- ---- the kinds of types and values
-
-pub leaf-type-none : (k : Token) → eqb (leafType (code k)) 0 ≡ not (among k leafTypes)
-unfolding all same code is among leafType
-leaf-type-none = agree (λ k. eqb (leafType (code k)) 0) (λ k. not (among k leafTypes)) refl refl
-
-pub leaf-type : (k : Token) → among k leafTypes ≡ true → leafType (code k) ≡ cond (is k T.Identifier) 19 18
-unfolding all code is among leafType
-leaf-type = alike (λ k. among k leafTypes) (λ k. leafType (code k)) (λ k. cond (is k T.Identifier) 19 18) refl refl
-
-pub container-type-none : (k : Token) → eqb (containerType (code k)) 0 ≡ not (among k containerTypes)
-unfolding all same code is among containerType
-container-type-none = agree (λ k. eqb (containerType (code k)) 0) (λ k. not (among k containerTypes)) refl refl
-
-pub container-type : (k : Token) → among k containerTypes ≡ true → containerType (code k) ≡ cond (is k T.List) 20 (cond (is k T.Set) 21 22)
-unfolding all code is among containerType
-container-type = alike (λ k. among k containerTypes) (λ k. containerType (code k)) (λ k. cond (is k T.List) 20 (cond (is k T.Set) 21 22)) refl refl
-
-pub leaf-value-none : (k : Token) → eqb (leafValue (code k)) 0 ≡ not (among k leafValues)
-unfolding all same code is among leafValue
-leaf-value-none = agree (λ k. eqb (leafValue (code k)) 0) (λ k. not (among k leafValues)) refl refl
-
-pub leaf-value : (k : Token) → among k leafValues ≡ true → leafValue (code k) ≡ valueKind k
-unfolding all code is among leafValue valueKind
-leaf-value = alike (λ k. among k leafValues) (λ k. leafValue (code k)) valueKind refl refl
 
 -- no kind is both a separator's and a comment's
 pub apart : (k : Token) → among k commentKinds ≡ true → among k separators ≡ false

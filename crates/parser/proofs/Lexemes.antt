@@ -32,6 +32,7 @@ use Rattle.lexer.specs.Tokens.{Lexeme, lexeme, skipped, lexemes, tokens, lexeme
 use Rattle.lexer.proofs.CutLaws.{hit-fits, cuts-nil, cuts-miss, cuts-hit}
 use Rattle.lexer.proofs.NextLaws.{next-inside, tokens-on, tokens-end, tokens-unrecognized}
 use Rattle.ast.specs.Lists.{All, anil, acons}
+use Rattle.ast.proofs.Counts.{append-all}
 use Rattle.ast.specs.Ast.{
   FieldType,
   CommonType,
@@ -157,7 +158,7 @@ use Rattle.parser.specs.Definitions.{
   documentEnd,
   parseDocument,
 }
-use Rattle.parser.proofs.Sure.{Any, append-s, single, third}
+use Rattle.parser.proofs.Sure.{Any, single, third}
 
 -- ---- the tokens of a text
 
@@ -383,7 +384,7 @@ module _ (Holds : Lexeme → Type 0) where
   unfolding pass
   pass-e f l c anil = good c anil
   pass-e f l c (acons {x = t} h hs) =
-      by-e (f (kind t)) _ _ _ (good c (acons h hs)) (pass-e f (place t) c hs) (pass-e f (place t) (append-s c (acons h anil)) hs)
+      by-e (f (kind t)) _ _ _ (good c (acons h hs)) (pass-e f (place t) c hs) (pass-e f (place t) (append-all c (acons h anil)) hs)
 
   skip-e : (f : Token → Fate) {s : St} → GoodE s → Gives Any (skip f s)
   unfolding skip

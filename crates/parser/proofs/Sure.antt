@@ -113,12 +113,9 @@ use Rattle.parser.specs.Definitions.{
   parseDocument,
 }
 use Rattle.ast.specs.Lists.{All, anil, acons}
+use Rattle.ast.proofs.Counts.{append-all}
 use Rattle.ast.specs.Numbered.{HasId, NumberedField, NumberedThrows, NumberedFunction, Numbered}
 use Rattle.parser.proofs.Wf.{commentKinds, most, Tok, WfType, wcommon, wlist, wset, wmap, WfValue, wleaf, wseq, wdict, WfElements, wnil, wcons, WfProperties, wpnil, wpcons, WfAnnotation, wannotation, WfAnnotations, wabsent, wannotations, WfId, wid, WfDefault, wnone, wsome, WfField, wfield, WfThrows, wquiet, wthrows, WfReturn, wvoid, wtype, WfFunction, wfunction, WfOption, wnothing, wjust, WfMember, wmember, WfDefinition, winclude, wcpp, wnamespace, wconst, wtypedef, wenum, wstructure, wservice}
-
-pub append-s : {A : Type 0} {W : A → Type 0} {xs ys : List A} → All W xs → All W ys → All W (xs ++ ys)
-append-s anil g = g
-append-s (acons h hs) g = acons h (append-s hs g)
 
 pub both : {A : Type 0} {U W : A → Type 0} {xs : List A} → All (λ x. U x → W x) xs → All U xs → All W xs
 both anil anil = anil
@@ -257,7 +254,7 @@ module _ (Good : Token → List ℕ → Type 0) (Last : LOC → Type 0) where
     pass-s l c anil z = good c anil z
     pass-s l c (acons {x = t} h hs) z =
         by-s (f (kind t)) _ _ _ (good c (acons h hs) z) (pass-s (place t) c hs z)
-        (λ e. pass-s (place t) (append-s c (acons (record { kinds = w (kind t) e; good = h }) anil)) hs z)
+        (λ e. pass-s (place t) (append-all c (acons (record { kinds = w (kind t) e; good = h }) anil)) hs z)
 
     skip-s : {s : St} → GoodS s → Sure Any (skip f s)
     unfolding skip

@@ -1,4 +1,4 @@
--- Document 01's starred edges as one table. Assumes nothing: these are definitions.
+-- Document 01's starred edges, its listing and its traps as one table. Assumes nothing: these are definitions.
 use Prim.Native.Nat.{ℕ}
 use Prim.Native.String.{String}
 use mathlib.Core.Path.{_≡_}
@@ -70,4 +70,12 @@ edges =
     ∷ accepts "struct A{1:i32 a}"
     ((7 ∷ 4294967295 ∷ 0 ∷ 0 ∷ 1 ∷ 1 ∷ 17 ∷ 1 ∷ 18 ∷ []) ∷ (16 ∷ 0 ∷ 0 ∷ 7 ∷ 1 ∷ 8 ∷ 8 ∷ 1 ∷ 9 ∷ []) ∷ (12 ∷ 0 ∷ 0 ∷ 9 ∷ 1 ∷ 10 ∷ 16 ∷ 1 ∷ 17 ∷ []) ∷ (17 ∷ 2 ∷ 0 ∷ 9 ∷ 1 ∷ 10 ∷ 10 ∷ 1 ∷ 11 ∷ []) ∷ (18 ∷ 2 ∷ 0 ∷ 11 ∷ 1 ∷ 12 ∷ 14 ∷ 1 ∷ 15 ∷ []) ∷ (16 ∷ 2 ∷ 0 ∷ 15 ∷ 1 ∷ 16 ∷ 16 ∷ 1 ∷ 17 ∷ []) ∷ [])
     []
+    -- the traps: a comment before `}` goes to whatever is read next; a function's range starts at its name; 4 is not told at the end of the text
+    ∷ accepts "struct A{#c\n}enum E{}"
+    ((7 ∷ 4294967295 ∷ 0 ∷ 0 ∷ 1 ∷ 1 ∷ 13 ∷ 2 ∷ 2 ∷ []) ∷ (16 ∷ 0 ∷ 0 ∷ 7 ∷ 1 ∷ 8 ∷ 8 ∷ 1 ∷ 9 ∷ []) ∷ (6 ∷ 4294967295 ∷ 0 ∷ 13 ∷ 2 ∷ 2 ∷ 21 ∷ 2 ∷ 10 ∷ []) ∷ (16 ∷ 2 ∷ 0 ∷ 18 ∷ 2 ∷ 7 ∷ 19 ∷ 2 ∷ 8 ∷ []) ∷ [])
+    ((32 ∷ 2 ∷ 0 ∷ 9 ∷ 1 ∷ 10 ∷ 11 ∷ 1 ∷ 12 ∷ []) ∷ [])
+    ∷ accepts "service S{void f()}"
+    ((10 ∷ 4294967295 ∷ 0 ∷ 0 ∷ 1 ∷ 1 ∷ 19 ∷ 1 ∷ 20 ∷ []) ∷ (16 ∷ 0 ∷ 0 ∷ 8 ∷ 1 ∷ 9 ∷ 9 ∷ 1 ∷ 10 ∷ []) ∷ (11 ∷ 0 ∷ 0 ∷ 15 ∷ 1 ∷ 16 ∷ 18 ∷ 1 ∷ 19 ∷ []) ∷ (18 ∷ 2 ∷ 0 ∷ 10 ∷ 1 ∷ 11 ∷ 14 ∷ 1 ∷ 15 ∷ []) ∷ (16 ∷ 2 ∷ 0 ∷ 15 ∷ 1 ∷ 16 ∷ 16 ∷ 1 ∷ 17 ∷ []) ∷ [])
+    []
+    ∷ refuses "typedef" 3 0 7
     ∷ []

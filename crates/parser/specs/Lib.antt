@@ -5,4 +5,3 @@ pub mod Definitions
 pub mod Read
 pub mod Edges
 pub mod Idl
-pub mod Into

@@ -74,8 +74,11 @@ pub record Reading : Type 0 where
   pub nodes : List ℕ
   pub comments : List ℕ
 
+abbrev pub told : Answer → List ℕ → List ℕ → Reading
+told a ns cs = record { says = a; nodes = ns; comments = cs }
+
 unfoldable pub reading : List ℕ → List ℕ → List ℕ → Reading
 reading t ns cs =
     let o = outcome t in
     let a = answer o ns cs in
-    record { says = a; nodes = left a (rowsBy nodeRows o) ns; comments = left a (rowsBy notes o) cs }
+    told a (left a (rowsBy nodeRows o) ns) (left a (rowsBy notes o) cs)

@@ -48,7 +48,7 @@ use Rattle.parser.specs.declared.Answer.{Answer}
 use Rattle.parser.specs.declared.Answer.the-variants as A
 use Rattle.parser.specs.Read as R
 use Rattle.parser.specs.Read.{Outcome, read, refused, parsed, answered, outcomeBy, outcome, rowsBy, Reading, reading}
-use Rattle.parser.specs.Into.{wiped}
+use Rattle.steps.specs.Into.{wiped}
 use Rattle.parser.proofs.Lexemes.{Stands, tokens-stand, HasRule, tokens-ruled, EachDefinition, document-each}
 use Rattle.parser.proofs.Paid.{nodes-most, notes-most}
 use Rattle.writer.specs.Print.{Piece, bytesOf, pieces, printed}

@@ -10,8 +10,7 @@ use borrow.Author.Tests.{lt-ltb, le-ltb}
 use lib.ListN.{length}
 use Rattle.parser.specs.declared.Answer.{Answer}
 use Rattle.parser.specs.declared.Answer.the-variants as A
-use Rattle.parser.specs.Read.{Reading, reading}
-use Rattle.parser.specs.Into.{told as read-told}
+use Rattle.parser.specs.Read.{Reading, reading, told as read-told}
 use Rattle.writer.specs.Write.{Printing}
 use Rattle.printer.specs.declared.cursor.Cursor.{Cursor}
 use Rattle.printer.specs.Onto.{Reached, reached, documentOut, opening, refusing, fits, ended, writing, byAnswer, byReading, all}
@@ -32,7 +31,7 @@ module _ (text : List ℕ) (indent : ℕ) (t u o : List ℕ) where
 
   module _ (h : length text ≤ 65536) (k : indent ≤ 8) (a : Answer) (t₁ u₁ : List ℕ) (e : read-told a t₁ u₁ ≡ reading text t u) where
     all-read : byAnswer a text indent t₁ u₁ o ≡ all text indent t u o
-    unfolding all byReading read-told
+    unfolding all byReading
     all-read = ap (λ (r : Reading). byReading r text indent o) e ∙ rw (le-ltb _ _ h, le-ltb _ _ k)
 
     pub all-refused : (n p l : ℕ) → a ≡ A.Refused n p l → refusing n p l t₁ u₁ o ≡ all text indent t u o

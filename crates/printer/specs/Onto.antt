@@ -11,7 +11,7 @@ use Rattle.ast.specs.Records.{width, noParent, cleared}
 use Rattle.parser.specs.declared.Answer.{Answer}
 use Rattle.parser.specs.declared.Answer.the-variants as A
 use Rattle.parser.specs.Read.{Reading, reading}
-use Rattle.parser.specs.Into.{wiped}
+use Rattle.steps.specs.Into.{wiped}
 use Rattle.writer.specs.declared.Printed.the-variants.{Accepted, Refused}
 use Rattle.writer.specs.Write.{Printing, told}
 use Rattle.printer.specs.declared.cursor.Cursor.{Cursor}

@@ -6,7 +6,7 @@ ghost use mathlib.Core.Path.{_≡_};
 ghost use Prim.Native.Nat.{_≤_};
 ghost use lib.ListN.{length};
 ghost use Rattle.ast.specs.Records.{cleared};
-ghost use Rattle.parser.specs.Into.{wiped};
+ghost use Rattle.steps.specs.Into.{wiped};
 ghost use Rattle.writer.specs.Write.{told, printing};
 ghost use Rattle.printer.specs.Onto.{refusing, fits, writing};
 use cursor::Cursor;
@@ -115,7 +115,7 @@ pub fn print(
     if 8 < indent {
         return refuse(26, 0, 0, nodes, comments, out);
     }
-    match parser::read(text, nodes, comments) {
+    match reader::read(text, nodes, comments) {
         Answer::Refused {
             number,
             place,

@@ -133,7 +133,7 @@ fn same_reading(answer: Answer, nodes: &[u32], comments: &[u32]) -> bool {
 fn same_text(text: &[u8]) -> bool {
     let mut nodes: [u32; 9005] = [7; 9005];
     let mut comments: [u32; 1804] = [7; 1804];
-    let answer = parser::read(text, &mut nodes, &mut comments);
+    let answer = reader::read(text, &mut nodes, &mut comments);
     let number = read_number();
     if number != 0 {
         return same_refusal(answer, number, &nodes, &comments);

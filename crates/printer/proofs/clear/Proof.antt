@@ -4,8 +4,8 @@ use Prim.Native.Nat.{_≤_, _-_}
 use native.Mathlib.Omega.{arith}
 use borrow.Author.Needs.{needs}
 use lib.ListN.{length, length-set}
-use Rattle.parser.specs.Into.{wiped}
-use Rattle.parser.proofs.Cells.{wipe-step, wipe-done}
+use Rattle.steps.specs.Into.{wiped}
+use Rattle.steps.proofs.Cells.{wipe-step, wipe-done}
 use Rattle.printer.proofs.clear.Statement.{statement}
 use Rattle.printer.proofs.clear.Tie as tie
 

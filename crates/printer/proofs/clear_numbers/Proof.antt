@@ -5,8 +5,8 @@ use native.Mathlib.Omega.{arith}
 use borrow.Author.Needs.{needs}
 use lib.ListN.{length, length-set}
 use Rattle.ast.specs.Records.{cleared}
-use Rattle.parser.specs.Into.{wiped}
-use Rattle.parser.proofs.Cells.{wipe-step, wipe-done, wipe-all}
+use Rattle.steps.specs.Into.{wiped}
+use Rattle.steps.proofs.Cells.{wipe-step, wipe-done, wipe-all}
 use Rattle.printer.proofs.clear_numbers.Statement.{statement}
 use Rattle.printer.proofs.clear_numbers.Tie as tie
 

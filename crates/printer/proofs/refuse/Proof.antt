@@ -1,7 +1,7 @@
 -- `printer::refuse` meets its contract. Assumes nothing.
 use borrow.Author.Needs.{needs}
 use Rattle.printer.specs.Onto.{refusing}
-use Rattle.parser.proofs.Cells.{wipe-all}
+use Rattle.steps.proofs.Cells.{wipe-all}
 use Rattle.printer.proofs.refuse.Statement.{statement}
 use Rattle.printer.proofs.refuse.Tie as tie
 

@@ -1,0 +1,251 @@
+-- What the code (its model, specs/Into) does to the state and to both tables means the definitions, for every text that passed 20, 21 and 22 and any two tables.
+--     document-m          the document: its definitions' records, in both tables
+--     parsing-means       the whole: the answer and both tables afterwards
+-- Assumes nothing.
+use mathlib.Core.Path.{_≡_, refl, sym, ap, _∙_}
+use mathlib.Core.Bool.{Bool, true, false, cond}
+use mathlib.Core.List.{List, [], _∷_, _++_, append-assoc, append-nil}
+use Prim.Native.Nat.{ℕ, suc, _+_, _*_, _-_, _≤_}
+use native.Mathlib.Omega.{arith}
+use borrow.Author.Tests.{ltb-false}
+use lib.Dec.{eqb, ltb}
+use lib.ListN.{length, take, drop}
+use Rattle.lexer.specs.declared.Checked.the-variants as C
+use Rattle.lexer.specs.declared.location.LOC.{LOC}
+use Rattle.lexer.specs.Location.{between, opening}
+use Rattle.lexer.specs.Tokens.{Lexeme, tokens}
+use Rattle.lexer.specs.Check.{checked}
+use Rattle.lexer.proofs.Ascii.{fine-means}
+use Rattle.lexer.proofs.PlaceLaws.{opening-placed}
+use Rattle.ast.specs.Lists.{anil}
+use Rattle.ast.specs.Ast.{Definition}
+use Rattle.ast.specs.Tree.{Forest, bare, single, each, definitionTree}
+use Rattle.ast.specs.Records.{width, noParent, sizes, rowsOf, owned, commentRowsOf, forest, nodeRows, notes, room, cleared}
+use Rattle.ast.proofs.Counts.{
+  forest-wide,
+  comments-wide,
+  owned-wide,
+  append-all,
+  noteCounts,
+  rows-sizes,
+  node-rows-size,
+  notes-count,
+  node-rows-wide,
+  notes-wide,
+}
+use Rattle.parser.specs.declared.Answer.{Answer}
+use Rattle.steps.specs.declared.state.State.{State}
+use Rattle.parser.specs.Steps.{St, pos, Res, test, fail, many}
+use Rattle.parser.specs.Definitions.{parseDefinition, over, documentEnd, parseDocument}
+use Rattle.parser.specs.Read.{parsed, endRule, answered, outcomeBy, outcome, fitted, answer, left, rowsBy, reading, told}
+use Rattle.steps.specs.Into.{Out, done, stop, refused, most, closesAt, restAt, wiped}
+use Rattle.reader.specs.Into.{inRest, restIn, overIn, betweenIn, documentIn, beginning, refusing, ended, refusingAt, fits, judged, parsing}
+use Rattle.steps.proofs.TableLaws.{lay, lay-append, length-lay, lay-rest, wiped-lay}
+use Rattle.steps.proofs.ForestLaws.{_⊕_, sizes-plus, counts-plus, rows-plus, notes-plus}
+use Rattle.parser.proofs.Paid.{tokens-bound}
+use Rattle.steps.proofs.Seen.{advance-ahead, moved, waitingOf, Frame, At, Meant, went, halted}
+use Rattle.steps.proofs.StepLaws.{none-ahead, some-ahead}
+use Rattle.steps.proofs.SkipLaws.{separators-m, comments-m}
+use Rattle.steps.proofs.NodeLaws.{rowsAt, rows-at, Turn, shuts, refuses, goes, turn-after, turn-last, loop-m}
+use Rattle.grammar.proofs.MeantDefinitions.{definition-m}
+
+-- ---- a definition in the rest of the table
+
+-- in front of a definition, which is lent the table t
+abbrev rest : Frame → Forest → ℕ → List ℕ → Frame
+rest fr f n t = record { number = n; nodes = t; owned = rowsAt fr f; comments = fr .comments }
+
+module _ {text : List ℕ} {i : ℕ} {fr : Frame} {f : Forest} {st : State} {t u : List ℕ} {s : St} (h : At text i 0 noParent fr f st t u s) where
+  rest-at : (r : List ℕ) → At text i (st .next) noParent (rest fr f (st .next) r) bare st r u s
+  unfolding lay rowsOf commentRowsOf sizes noteCounts
+  rest-at r =
+      record {
+        last = h .last;
+        ahead = h .ahead;
+        next = omega arith;
+        nodes = refl;
+        count = omega (arith, h .count, rows-at fr f);
+        waits = h .waits;
+        comments = rw (append-nil (rowsAt fr f)) (h .comments);
+        credit = h .credit;
+        space = h .space;
+        based = omega arith;
+        wide = append-all (h .wide) (comments-wide f (fr .number));
+      }
+
+  back-at : {g : Forest} {st′ : State} {t′ u′ : List ℕ} {s′ : St} (k : ℕ) → k ≡ restAt (length t) (st .next)
+      → At text i (st .next) noParent (rest fr f (st .next) (drop k t)) g st′ t′ u′ s′ → At text i 0 noParent fr (f ⊕ g) st′ (take k t ++ t′) u′ s′
+  back-at {g = g} {st′ = st′} {t′ = t′} {s′ = s′} k e d =
+      let n = st .next in
+      let m = fr .number in
+      let xs = rowsOf f noParent m in
+      let ys = rowsOf g noParent n in
+      let q : m - 0 + length xs ≡ n = omega (arith, h .next, rows-sizes f noParent m) in
+      let z : n - n ≡ 0 = omega arith in
+      record {
+        last = d .last;
+        ahead = d .ahead;
+        next = d .next ∙ omega (arith, h .next, sizes-plus f g);
+        nodes =
+            ap (λ (y : List ℕ). take k t ++ y) (d .nodes ∙ ap (λ (y : ℕ). lay y ys (drop k t)) z)
+            ∙ ap (λ (y : ℕ). take y t ++ lay 0 ys (drop y t)) e
+            ∙ lay-rest n t (forest-wide g noParent n)
+            ∙ ap (lay n ys) (h .nodes)
+            ∙ ap (λ (y : ℕ). lay y ys (lay (m - 0) xs (fr .nodes))) (sym q)
+            ∙ sym (lay-append (m - 0) xs ys (fr .nodes))
+            ∙ ap (λ (y : List (List ℕ)). lay (m - 0) y (fr .nodes)) (ap (λ (y : ℕ). xs ++ rowsOf g noParent y) (h .next) ∙ sym (rows-plus f g noParent m));
+        count = d .count ∙ omega (arith, rows-at fr f, counts-plus f g);
+        waits = d .waits;
+        comments =
+            d .comments
+            ∙ ap (λ (y : List (List ℕ)). lay 0 (y ++ owned 0 (waitingOf s′)) (fr .comments))
+            (append-assoc (fr .owned) (commentRowsOf f m) (commentRowsOf g n)
+            ∙ ap (λ (y : List (List ℕ)). fr .owned ++ y) (ap (λ (y : ℕ). commentRowsOf f m ++ commentRowsOf g y) (h .next) ∙ sym (notes-plus f g m)));
+        credit = d .credit;
+        space = d .space;
+        based = omega arith;
+        wide = h .wide;
+      }
+
+in-rest : {A : Type 0} {Q R : A → State → List ℕ → List ℕ → St → Type 0} {o : Out} {r : Res A} (k : ℕ) (t : List ℕ) → Meant Q o r
+    → ((a : A) (st : State) (t′ u : List ℕ) (s : St) → Q a st t′ u s → R a st (take k t ++ t′) u s) → Meant R (inRest k t o) r
+unfolding inRest
+in-rest k t (went {a = a} {st = st} {t = t′} {u = u} {s = s} q) g = went (g a st t′ u s q)
+in-rest k t halted g = halted
+
+-- both tables as they were lent
+abbrev pub lent : List ℕ → List ℕ → Frame
+lent t u = record { number = 0; nodes = t; owned = []; comments = u }
+
+module _ (text : List ℕ) (short : length text ≤ 65536) where
+  rest-m : {i : ℕ} {fr : Frame} {f : Forest} {st : State} {t u : List ℕ} {s : St} → At text (suc i) 0 noParent fr f st t u s
+      → Meant (λ d. At text (suc i) 0 noParent fr (f ⊕ single (definitionTree d))) (restIn text st t u) (parseDefinition s)
+  unfolding restIn
+  rest-m {st = st} {t = t} h =
+      let k = restAt (length t) (st .next) in
+      in-rest k t (definition-m text short (rest-at h (drop k t))) λ a st′ t′ u′ s′ d. back-at h k refl d
+
+  -- ---- the document
+
+  refused-none : (e : ℕ) (st : State) (l : LOC) → eqb (st .kind) 255 ≡ true → st .last ≡ l → refused e st ≡ stop 3 l
+  unfolding refused
+  refused-none e st l k h = rw (k, h)
+
+  over-in : (st : State) (t u : List ℕ) (l : LOC) (z : Bool) → st .last ≡ l → eqb (l .end .index) 1 ≡ z → overIn st t u ≡ cond z (refused 3 st) (done st t u)
+  unfolding overIn
+  over-in st t u l z h e = let d : eqb (st .last .end .index) 1 ≡ z = ap (λ (x : LOC). eqb (x .end .index) 1) h ∙ e in rw d
+
+  over-by : {i b p : ℕ} {fr : Frame} {f : Forest} {st : State} {t u : List ℕ} (l : LOC) (c : List Lexeme) → At text i b p fr f st t u (pos l c [])
+      → (z : Bool) → eqb (l .end .index) 1 ≡ z → Turn text i b p fr f (closesAt 255) overIn (done st t u) (over (pos l c []))
+  unfolding over closesAt test fail
+  over-by {st = st} {t = t} {u = u} l c h true e =
+      rw e (refuses (none-ahead (h .ahead)) (over-in st t u l true (h .last) e ∙ refused-none 3 st l (none-ahead (h .ahead)) (h .last)))
+  over-by {st = st} {t = t} {u = u} l c h false e = rw e (shuts (none-ahead (h .ahead)) (over-in st t u l false (h .last) e) h)
+
+  over-turn : {i b p : ℕ} {fr : Frame} {f : Forest} {st : State} {t u : List ℕ} (s : St) → At text i b p fr f st t u s
+      → Turn text i b p fr f (closesAt 255) overIn (done st t u) (over s)
+  unfolding over closesAt
+  over-turn (pos l c []) h = over-by l c h (eqb (l .end .index) 1) refl
+  over-turn (pos l c (t ∷ ts)) h = goes (some-ahead (h .ahead)) h
+
+  document-turn : {i b p : ℕ} {fr : Frame} {f : Forest} {st : State} {t u : List ℕ} {s : St} → At text i b p fr f st t u s
+      → Turn text i b p fr f (closesAt 255) overIn (betweenIn text st t u) (documentEnd s)
+  unfolding betweenIn documentEnd
+  document-turn h =
+      turn-after (separators-m text short _ h) λ a st₁ t₁ u₁ s₁ h₁. turn-after (comments-m text short _ h₁) λ a st₂ t₂ u₂ s₂ h₂.
+      turn-last (separators-m text short _ h₂) λ a st₃ t₃ u₃ s₃ h₃. over-turn s₃ h₃
+
+  pub document-m : {i : ℕ} {fr : Frame} {f : Forest} {st : State} {t u : List ℕ} {s : St} → At text (suc i) 0 noParent fr f st t u s
+      → Meant (λ ds. At text (suc i) 0 noParent fr (f ⊕ forest ds)) (documentIn text st t u) (parseDocument s)
+  unfolding documentIn parseDocument many most forest each
+  document-m {f = f} h =
+      loop-m definitionTree (λ ds. each definitionTree ds bare) (closesAt 255) (betweenIn text) overIn (restIn text) [] _∷_ documentEnd parseDefinition refl (λ a x. refl)
+      (λ f st t u s h. document-turn h) (λ f st t u s h. rest-m h) 65537 f _ _ _ _ h
+
+  -- ---- the whole
+
+  pub beginning-at : (t u : List ℕ) → At text 8 0 noParent (lent t u) bare (beginning text) t u (pos (between opening opening) [] (tokens text opening))
+  unfolding beginning lay rowsOf commentRowsOf sizes noteCounts owned
+  beginning-at t u =
+      let l = between opening opening in
+      let st : State = record { lexer = opening; kind = 255; loc = l; last = l; next = 0; owned = 0; waiting = 0 } in
+      let m = moved text st in
+      record {
+        last = m .last;
+        ahead = advance-ahead text short st opening-placed;
+        next = m .next;
+        nodes = refl;
+        count = m .owned;
+        waits = m .waiting;
+        comments = refl;
+        credit = omega (arith, m .next, tokens-bound text);
+        space = omega (arith, m .owned, tokens-bound text);
+        based = omega arith;
+        wide = anil;
+      }
+
+  told-same : {a b : Answer} {n m c d : List ℕ} → a ≡ b → n ≡ m → c ≡ d → told a n c ≡ told b m d
+  told-same e f g = rw (e, f, g)
+
+  cleared-same : (t r : List ℕ) → length r ≡ length t → cleared r ≡ cleared t
+  unfolding cleared
+  cleared-same t r e = rw e
+
+  room-same : (t r : List ℕ) → length r ≡ length t → room r ≡ room t
+  unfolding room
+  room-same t r e = rw e
+
+  module _ {i : ℕ} {t′ u′ : List ℕ} {st : State} {s : St} (t u : List ℕ) (ds : List Definition) (h : At text i 0 noParent (lent t u) (forest ds) st t′ u′ s) where
+    -- what the tables hold at the end
+    table-nodes : t′ ≡ lay 0 (nodeRows ds ++ []) t
+    unfolding nodeRows
+    table-nodes = h .nodes ∙ ap (λ (y : List (List ℕ)). lay 0 y t) (sym (append-nil (rowsOf (forest ds) noParent 0)))
+
+    table-notes : u′ ≡ lay 0 (notes ds ++ owned 0 (waitingOf s)) u
+    unfolding notes
+    table-notes = h .comments
+
+    count-nodes : st .next ≡ length (nodeRows ds)
+    count-nodes = h .next ∙ omega (arith, node-rows-size ds)
+
+    count-notes : st .owned ≡ length (notes ds)
+    count-notes = h .count ∙ omega (arith, notes-count ds)
+
+    length-nodes : length t′ ≡ length t
+    length-nodes = ap length table-nodes ∙ length-lay 0 t (append-all (node-rows-wide ds) anil)
+
+    length-notes : length u′ ≡ length u
+    length-notes = ap length table-notes ∙ length-lay 0 u (append-all (notes-wide ds) (owned-wide 0 (waitingOf s)))
+
+    fits-by : (x y : Bool) → ltb (room t) (length (nodeRows ds)) ≡ x → ltb (room u) (length (notes ds)) ≡ y
+        → fits st t′ u′ ≡ told (fitted ds t u) (left (fitted ds t u) (nodeRows ds) t) (left (fitted ds t u) (notes ds) u)
+    unfolding fits fitted left refusing
+    fits-by true y e d =
+        let z : ltb (room t′) (st .next) ≡ true = rw (room-same t t′ length-nodes, count-nodes) e in
+        rw (z, e) (told-same refl (cleared-same t t′ length-nodes) (cleared-same u u′ length-notes))
+    fits-by false true e d =
+        let z : ltb (room t′) (st .next) ≡ false = rw (room-same t t′ length-nodes, count-nodes) e in
+        let w : ltb (room u′) (st .owned) ≡ true = rw (room-same u u′ length-notes, count-notes) d in
+        rw (z, e, w, d) (told-same refl (cleared-same t t′ length-nodes) (cleared-same u u′ length-notes))
+    fits-by false false e d =
+        let z : ltb (room t′) (st .next) ≡ false = rw (room-same t t′ length-nodes, count-nodes) e in
+        let w : ltb (room u′) (st .owned) ≡ false = rw (room-same u u′ length-notes, count-notes) d in
+        rw (z, e, w, d)
+        (told-same (rw (count-nodes, count-notes))
+        (ap (λ (n : ℕ). wiped (n * width) t′) count-nodes ∙ ap (wiped (length (nodeRows ds) * width)) table-nodes
+        ∙ wiped-lay t (node-rows-wide ds) anil (ltb-false (room t) (length (nodeRows ds)) e))
+        (ap (λ (n : ℕ). wiped (n * width) u′) count-notes ∙ ap (wiped (length (notes ds) * width)) table-notes
+        ∙ wiped-lay u (notes-wide ds) (owned-wide 0 (waitingOf s)) (ltb-false (room u) (length (notes ds)) d)))
+
+  judged-means : {o : Out} {r : Res (List Definition)} {i : ℕ} (t u : List ℕ) → Meant (λ ds. At text i 0 noParent (lent t u) (forest ds)) o r
+      → judged o (length text) t u ≡ told (answer (answered r text) t u) (left (answer (answered r text) t u) (rowsBy nodeRows (answered r text)) t)
+      (left (answer (answered r text) t u) (rowsBy notes (answered r text)) u)
+  unfolding judged answered answer rowsBy refusingAt refusing ended endRule left
+  judged-means t u (went {a = ds} h) = fits-by t u ds h (ltb (room t) (length (nodeRows ds))) (ltb (room u) (length (notes ds))) refl refl
+  judged-means t u halted = refl
+
+pub parsing-means : (text t u : List ℕ) → checked text ≡ C.Fine → parsing text t u ≡ reading text t u
+unfolding parsing reading outcome outcomeBy parsed
+parsing-means text t u e =
+    let short : length text ≤ 65536 = fine-means text e .0 in
+    rw e (judged-means text short t u (document-m text short (beginning-at text short t u)))

@@ -1,0 +1,23 @@
+-- `reader::parse_in_rest` meets its contract. Assumes nothing.
+use mathlib.Core.Path.{_≡_, refl, sym, ap, ap₂, _∙_}
+use Rattle.reader.proofs.Whole.{rest-is}
+use borrow.Author.Needs.{needs}
+use Rattle.reader.proofs.parse_in_rest.Statement.{statement}
+use Rattle.reader.proofs.parse_in_rest.Tie as tie
+
+returns : tie.Need-returns
+returns c = rest-is _ _ _ _ _ _ _ _ (c .before .before .before .before .before .before .before .rest-of .ensures .0) (c .before .before .before .before .parse-definition .ensures)
+
+pub parse-in-rest-spec : {M : Type 1} → statement M
+parse-in-rest-spec =
+    tie.close
+    (tie.spec
+    (λ c κs. search needs)
+    (λ c. search needs)
+    (λ c. search needs)
+    (λ c. search needs)
+    (λ c. search needs)
+    (λ c κs. search needs)
+    (λ c. search needs)
+    (λ c. search needs)
+    returns)

@@ -1,0 +1,14 @@
+-- `reader::refuse` meets its contract. Assumes nothing.
+use borrow.Author.Needs.{needs}
+use Rattle.reader.specs.Into.{refusing}
+use Rattle.steps.proofs.Cells.{wipe-all}
+use Rattle.reader.proofs.refuse.Statement.{statement}
+use Rattle.reader.proofs.refuse.Tie as tie
+
+returns : tie.Need-returns
+unfolding refusing
+returns c = rw (c .before .before .before .before .before .before .clear .ensures, c .before .before .clear2 .ensures, wipe-all, wipe-all)
+
+pub refuse-spec : {M : Type 1} → statement M
+refuse-spec =
+    tie.close (tie.spec (λ c κs. search needs) (λ c κs. search needs) (λ c. search needs) (λ c. search needs) returns)

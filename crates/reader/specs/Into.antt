@@ -1,0 +1,64 @@
+-- What the code does to the state and to both tables, of a document and of a whole text. Contracts inside this crate cite it, and proofs/Meant shows that it
+-- means parser/specs/Read; nothing outside the crate has to believe it. Assumes nothing: these are definitions.
+use mathlib.Core.Bool.{true, false, cond}
+use mathlib.Core.List.{List, _++_}
+use Prim.Native.Nat.{ℕ, _*_, _-_}
+use lib.Dec.{eqb, ltb}
+use lib.ListN.{length, take, drop}
+use Rattle.lexer.specs.declared.location.LOC.{LOC}
+use Rattle.lexer.specs.Location.{between, opening}
+use Rattle.ast.specs.Records.{width, room, cleared}
+use Rattle.parser.specs.Read.{Reading, told}
+use Rattle.parser.specs.declared.Answer.the-variants as A
+use Rattle.steps.specs.declared.state.State.{State}
+use Rattle.steps.specs.Into.{Out, M, _⨟_, restAt, wiped, advanced, refused, most, skipIn, skipCommentsIn, loopIn, closesAt, done, stop}
+use Rattle.grammar.specs.Into.{definitionIn}
+
+-- ---- the document
+
+unfoldable pub inRest : ℕ → List ℕ → Out → Out
+inRest i t (done st t′ u′) = done st (take i t ++ t′) u′
+inRest i t (stop n l) = stop n l
+
+-- a definition, its records in the unused rest of the table
+unfoldable pub restIn : List ℕ → M
+restIn text st t u = let i = restAt (length t) (st .next) in inRest i t (definitionIn text st (drop i t) u)
+
+unfoldable pub overIn : M
+overIn st t u = cond (eqb (st .last .end .index) 1) (refused 3 st) (done st t u)
+
+unfoldable pub betweenIn : List ℕ → M
+betweenIn text = skipIn text true ⨟ (skipCommentsIn text false ⨟ skipIn text true)
+
+unfoldable pub documentIn : List ℕ → M
+documentIn text = loopIn (closesAt 255) (betweenIn text) overIn (restIn text) most
+
+unfoldable pub beginning : List ℕ → State
+beginning text =
+    let l = between opening opening in
+    advanced text (record { lexer = opening; kind = 255; loc = l; last = l; next = 0; owned = 0; waiting = 0 })
+
+-- ---- the whole
+
+unfoldable pub refusing : ℕ → ℕ → ℕ → List ℕ → List ℕ → Reading
+refusing e p n t u = told (A.Refused e p n) (cleared t) (cleared u)
+
+unfoldable pub ended : ℕ → ℕ → ℕ → ℕ
+ended e i len = cond (eqb e 3) (cond (eqb i len) 3 1) e
+
+unfoldable pub refusingAt : ℕ → LOC → ℕ → List ℕ → List ℕ → Reading
+refusingAt e l len t u = refusing (ended e (l .end .index) len) (l .start .index) (l .end .index - l .start .index) t u
+
+-- what was read, if the tables hold it: else 24, then 25
+unfoldable pub fits : State → List ℕ → List ℕ → Reading
+fits st t u =
+    cond (ltb (room t) (st .next)) (refusing 24 0 0 t u)
+    (cond (ltb (room u) (st .owned)) (refusing 25 0 0 t u)
+    (told (A.Accepted (st .next) (st .owned)) (wiped (st .next * width) t) (wiped (st .owned * width) u)))
+
+unfoldable pub judged : Out → ℕ → List ℕ → List ℕ → Reading
+judged (done st t′ u′) len t u = fits st t′ u′
+judged (stop e l) len t u = refusingAt e l len t u
+
+unfoldable pub parsing : List ℕ → List ℕ → List ℕ → Reading
+parsing text t u = judged (documentIn text (beginning text) t u) (length text) t u

@@ -1,0 +1,213 @@
+// From a text to its definitions and both tables.
+ghost use mathlib.Core.Path.{_≡_};
+ghost use Prim.Native.Nat.{_≤_};
+ghost use lib.ListN.{length};
+ghost use Rattle.parser.specs.Read.{reading, told};
+ghost use Rattle.steps.specs.Into.{Keeps, Lent, Reads, Still, restAt, wiped};
+ghost use Rattle.reader.specs.Into.{restIn, overIn, betweenIn, documentIn, beginning, refusing, ended, refusingAt, fits, parsing};
+use lexer::Checked;
+use lexer::location::LOC;
+use lexer::location::Lexer;
+use lexer::location::Span;
+use parser::Answer;
+use steps::state::MOST;
+use steps::state::NONE;
+use steps::state::Parsed;
+use steps::state::State;
+use steps::table;
+
+// Where record `number` starts in a table.
+fn rest_of(len: usize, number: u32) -> usize
+    ensures { λ r. ⌜ (r ≡ restAt len number) × (r ≤ len) ⌝ }
+{
+    let at = number as usize * table::WIDTH;
+    if at < len { at } else { len }
+}
+
+// The definition, its records in the unused rest of the table.
+fn parse_in_rest(
+    class: &[u8; 256],
+    trie: &[u8; 512],
+    text: &[u8],
+    st: State,
+    nodes: &mut [u32],
+    comments: &mut [u32],
+) -> Parsed
+    requires { ⌜ Lent (now class) (now trie) (now text) ⌝ }
+    ensures { λ r. ⌜ Reads (restIn (now (text .entry))) st r (now (nodes .entry)) (now (nodes .exit)) (now (comments .entry)) (now (comments .exit)) ⌝ }
+{
+    let at = rest_of(nodes.len(), st.next);
+    grammar::definitions::parse_definition(class, trie, text, st, &mut nodes[at..], comments)
+}
+
+// The end of the text: refused where the last token ends at offset 1.
+fn over(st: State) -> Parsed
+    ensures { λ r. ⌜ Still (overIn) st r ⌝ }
+{
+    let last = st.last;
+    if last.end.index == 1 {
+        return steps::refuse(st, 3);
+    }
+    Parsed::On(st)
+}
+
+// Between definitions: separators, comments, separators again.
+fn between(
+    class: &[u8; 256],
+    trie: &[u8; 512],
+    text: &[u8],
+    st: State,
+    comments: &mut [u32],
+) -> State
+    requires { ⌜ Lent (now class) (now trie) (now text) ⌝ }
+    ensures { λ r. ⌜ Keeps (betweenIn (now (text .entry))) st r (now (comments .entry)) (now (comments .exit)) ⌝ }
+{
+    let over = steps::skip(class, trie, text, st, true);
+    let found = steps::skip_comments(class, trie, text, over, false, comments);
+    steps::skip(class, trie, text, found, true)
+}
+
+// parse: all definitions.
+fn parse_document(
+    class: &[u8; 256],
+    trie: &[u8; 512],
+    text: &[u8],
+    st: State,
+    nodes: &mut [u32],
+    comments: &mut [u32],
+) -> Parsed
+    requires { ⌜ Lent (now class) (now trie) (now text) ⌝ }
+    ensures { λ r. ⌜ Reads (documentIn (now (text .entry))) st r (now (nodes .entry)) (now (nodes .exit)) (now (comments .entry)) (now (comments .exit)) ⌝ }
+{
+    let mut state = st;
+    let mut left = MOST;
+    while 0 < left {
+        let found = between(class, trie, text, state, comments);
+        if found.kind == NONE {
+            return over(found);
+        }
+        let read = parse_in_rest(class, trie, text, found, nodes, comments);
+        let Parsed::On(behind) = read else {
+            return read;
+        };
+        state = behind;
+        left -= 1;
+    }
+    steps::refuse(state, 3)
+}
+
+// The state at the start of a text.
+fn begin(class: &[u8; 256], trie: &[u8; 512], text: &[u8]) -> State
+    requires { ⌜ Lent (now class) (now trie) (now text) ⌝ }
+    ensures { λ r. ⌜ r ≡ beginning (now (text .entry)) ⌝ }
+{
+    let lexer = Lexer::new();
+    let start = lexer.span();
+    let end = start;
+    let loc = LOC { start, end };
+    let last = loc;
+    let st = State {
+        lexer,
+        kind: NONE,
+        loc,
+        last,
+        next: 0,
+        owned: 0,
+        waiting: 0,
+    };
+    steps::advance(class, trie, text, st)
+}
+
+// A table's numbers become 0 from an index on.
+fn clear(table: &mut [u32], from: usize)
+    requires { ⌜ from ≤ length (now table) ⌝ }
+    ensures { λ _. ⌜ now (table .exit) ≡ wiped from (now (table .entry)) ⌝ }
+{
+    let mut i = from;
+    while i < table.len() {
+        table[i] = 0;
+        i += 1;
+    }
+}
+
+fn refuse(number: u32, place: u32, length: u32, nodes: &mut [u32], comments: &mut [u32]) -> Answer
+    ensures { λ r. ⌜ told r (now (nodes .exit)) (now (comments .exit)) ≡ refusing number place length (now (nodes .entry)) (now (comments .entry)) ⌝ }
+{
+    clear(nodes, 0);
+    clear(comments, 0);
+    Answer::Refused {
+        number,
+        place,
+        length,
+    }
+}
+
+// The end rule: with no token left, 3 if the last token ends at the text's length, else 1.
+fn end_rule(number: u32, end: u32, len: usize) -> u32
+    ensures { λ r. ⌜ r ≡ ended number end len ⌝ }
+{
+    if number != 3 {
+        return number;
+    }
+    if end as usize == len { 3 } else { 1 }
+}
+
+// A refusal of the grammar.
+fn refuse_at(number: u32, loc: LOC, len: usize, nodes: &mut [u32], comments: &mut [u32]) -> Answer
+    ensures { λ r. ⌜ told r (now (nodes .exit)) (now (comments .exit)) ≡ refusingAt number loc len (now (nodes .entry)) (now (comments .entry)) ⌝ }
+{
+    let start = loc.start.index;
+    let end = loc.end.index;
+    let told = end_rule(number, end, len);
+    let mut length = 0;
+    if start < end {
+        length = end - start;
+    }
+    refuse(told, start, length, nodes, comments)
+}
+
+// What was read, if the tables hold it: else 24, then 25.
+fn fit(state: State, nodes: &mut [u32], comments: &mut [u32]) -> Answer
+    ensures { λ r. ⌜ told r (now (nodes .exit)) (now (comments .exit)) ≡ fits state (now (nodes .entry)) (now (comments .entry)) ⌝ }
+{
+    let next = state.next;
+    let owned = state.owned;
+    if nodes.len() / table::WIDTH < next as usize {
+        return refuse(24, 0, 0, nodes, comments);
+    }
+    if comments.len() / table::WIDTH < owned as usize {
+        return refuse(25, 0, 0, nodes, comments);
+    }
+    clear(nodes, next as usize * table::WIDTH);
+    clear(comments, owned as usize * table::WIDTH);
+    Answer::Accepted {
+        nodes: next,
+        comments: owned,
+    }
+}
+
+// The grammar over a text that passed 20, 21 and 22.
+fn parse(text: &[u8], nodes: &mut [u32], comments: &mut [u32]) -> Answer
+    requires { ⌜ length (now text) ≤ 65536 ⌝ }
+    ensures { λ r. ⌜ told r (now (nodes .exit)) (now (comments .exit)) ≡ parsing (now (text .entry)) (now (nodes .entry)) (now (comments .entry)) ⌝ }
+{
+    let class = lexer::table::CLASS;
+    let trie = lexer::table::WORDS;
+    let st = begin(&class, &trie, text);
+    match parse_document(&class, &trie, text, st, nodes, comments) {
+        Parsed::Refused(number, loc) => refuse_at(number, loc, text.len(), nodes, comments),
+        Parsed::On(state) => fit(state, nodes, comments),
+    }
+}
+
+// Reads a text into a node table and a comment table.
+pub fn read(text: &[u8], nodes: &mut [u32], comments: &mut [u32]) -> Answer
+    ensures { λ r. ⌜ told r (now (nodes .exit)) (now (comments .exit)) ≡ reading (now (text .entry)) (now (nodes .entry)) (now (comments .entry)) ⌝ }
+{
+    match lexer::check(text) {
+        Checked::TooLong => refuse(20, 0, 0, nodes, comments),
+        Checked::IllFormed(at) => refuse(21, at as u32, 0, nodes, comments),
+        Checked::Unrecognized(at) => refuse(22, at as u32, 0, nodes, comments),
+        Checked::Fine => parse(text, nodes, comments),
+    }
+}

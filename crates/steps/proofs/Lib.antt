@@ -1,0 +1,11 @@
+pub mod Chain
+pub mod Cells
+pub mod Turns
+pub mod Digits
+pub mod TableLaws
+pub mod ForestLaws
+pub mod Seen
+pub mod StepLaws
+pub mod SkipLaws
+pub mod NodeLaws
+pub mod LoopForms

@@ -1,0 +1,218 @@
+-- The state and the tables of the code against the state of the meaning, and the relation of what both readers give. Here and in the laws that are
+-- built on this file, the code is its model, specs/Into, and the meaning is specs/Definitions.
+--     Ahead, First        the token ahead of the code is the first of the tokens left
+--     Frame, At           the state and both tables stand where a forest has been read from a frame on
+--     Meant               the code and the meaning both go on, with what Q says, or both refuse, with the same number and place
+--     bind-m, here-m, last-m, cond-m, grouped    a step and then the next one; by a test; steps that the code groups otherwise
+--     advance-ahead       one token further
+--     small-bump, small-sum    the code's numbers are counted as they are
+-- Assumes nothing.
+use mathlib.Core.Path.{_≡_, refl}
+use mathlib.Core.Bool.{Bool, true, false, not, cond}
+use mathlib.Core.List.{List, [], _∷_, _++_}
+use Prim.Native.Nat.{ℕ, suc, _+_, _*_, _-_, _≤_, _<_}
+use native.Mathlib.Omega.{arith}
+use borrow.Author.Tests.{le-ltb, lt-ltb, le-leb}
+use lib.ListN.{length}
+use Rattle.token.specs.Code.{code}
+use Rattle.lexer.specs.declared.location.Lexer.{Lexer}
+use Rattle.lexer.specs.declared.location.LOC.{LOC}
+use Rattle.lexer.specs.declared.location.ParserToken.{ParserToken}
+use Rattle.lexer.specs.declared.location.Next.{Next}
+use Rattle.lexer.specs.declared.location.Next.the-variants as N
+use Rattle.lexer.specs.Location.{Placed}
+use Rattle.lexer.specs.Tokens as L
+use Rattle.lexer.specs.Tokens.{Lexeme, tokens, lexemeOf}
+use Rattle.lexer.proofs.NextLaws.{next-placed, next-inside, tokens-on, tokens-end, tokens-unrecognized}
+use Rattle.ast.specs.Lists.{All}
+use Rattle.ast.specs.Tree.{Forest}
+use Rattle.ast.specs.Records.{sizes, rowsOf, owned, commentRowsOf}
+use Rattle.ast.proofs.Counts.{Wide, noteCounts}
+use Rattle.steps.specs.declared.state.State.{State}
+use Rattle.parser.specs.Steps.{kind, bytes, place, St, pos, Res, ok, no, P, bind, test}
+use Rattle.parser.specs.Definitions.{isId}
+use Rattle.steps.specs.Into.{Out, done, stop, M, after, largest, bump, sum, lookAt, aheadOf, advanced, isIdAt}
+use Rattle.steps.proofs.TableLaws.{lay}
+use Rattle.steps.proofs.ForestLaws.{_⊕_}
+
+-- ---- numbers that do not pass the largest
+
+pub small-bump : (n : ℕ) → n < 4294967295 → bump n ≡ suc n
+unfolding bump largest
+small-bump n h = rw (lt-ltb n 4294967295 h) (omega arith)
+
+pub small-sum : (a b : ℕ) → a + b ≤ 4294967295 → sum a b ≡ a + b
+unfolding sum largest
+small-sum a b h = rw (le-leb a (4294967295 - b) (omega arith))
+
+-- ---- the token ahead
+
+-- the code and the place of a token, of the text
+pub record First (text : List ℕ) (k : ℕ) (l : LOC) (t : Lexeme) : Type 0 where
+  pub coded : k ≡ code (kind t)
+  pub placed : l ≡ place t
+  pub spelled : isIdAt text (place t) ≡ isId (bytes t)
+
+-- the tokens left, with the code's kind, place and lexer
+pub data Ahead (text : List ℕ) (k : ℕ) (l : LOC) (x : Lexer) : List Lexeme → Type 0 where
+  over : k ≡ 255 → Ahead text k l x []
+  on : {t : Lexeme} {ts : List Lexeme} → First text k l t → ts ≡ tokens text x → Placed x → Ahead text k l x (t ∷ ts)
+
+abbrev pub AheadOf : List ℕ → State → List Lexeme → Type 0
+AheadOf text st ts = Ahead text (st .kind) (st .loc) (st .lexer) ts
+
+-- what an advance keeps
+pub record Moved (st : State) (r : State) : Type 0 where
+  pub last : r .last ≡ st .loc
+  pub next : r .next ≡ st .next
+  pub owned : r .owned ≡ st .owned
+  pub waiting : r .waiting ≡ st .waiting
+
+spelled-at : (text : List ℕ) (p : ParserToken) → p .loc .start .index ≤ p .loc .end .index → p .loc .end .index ≤ length text
+    → isIdAt text (p .loc) ≡ isId (bytes (lexemeOf text p))
+unfolding isIdAt bytes lexemeOf
+spelled-at text p h g = rw (le-ltb _ _ g, le-ltb _ _ h)
+
+module _ (text : List ℕ) (short : length text ≤ 65536) where
+  look : (s : Lexer) → Placed s → lookAt text s ≡ L.next text s
+  unfolding lookAt
+  look s h = rw (le-ltb 65536 (s .at) (h .below), le-ltb (s .at) (s .line) (h .lines), le-ltb (s .at) (s .origin) (h .line-begun))
+
+  ahead-by : (r : Next) (st : State) → Placed (st .lexer) → L.next text (st .lexer) ≡ r → AheadOf text (aheadOf r st) (tokens text (st .lexer))
+  unfolding aheadOf kind place lexemeOf
+  ahead-by (N.On p s) st h e =
+      let i = next-inside text (st .lexer) s p e in
+      rw (tokens-on text (st .lexer) s p e)
+      (on (record { coded = refl; placed = refl; spelled = spelled-at text p (omega (arith, i .1)) (omega (arith, i .2, i .3)) })
+      refl (next-placed text (st .lexer) s p h short e))
+  ahead-by N.End st h e = rw (tokens-end text (st .lexer) e) (over refl)
+  ahead-by (N.Unrecognized q) st h e = rw (tokens-unrecognized text (st .lexer) q e) (over refl)
+
+  pub advance-ahead : (st : State) → Placed (st .lexer) → AheadOf text (advanced text st) (tokens text (st .lexer))
+  unfolding advanced
+  advance-ahead st h = rw (look (st .lexer) h) (ahead-by (L.next text (st .lexer)) st h refl)
+
+moved-by : (r : Next) (st : State) → Moved st (aheadOf r st)
+unfolding aheadOf
+moved-by (N.On p s) st = record { last = refl; next = refl; owned = refl; waiting = refl }
+moved-by N.End st = record { last = refl; next = refl; owned = refl; waiting = refl }
+moved-by (N.Unrecognized q) st = record { last = refl; next = refl; owned = refl; waiting = refl }
+
+pub moved : (text : List ℕ) (st : State) → Moved st (advanced text st)
+unfolding advanced
+moved text st = moved-by (lookAt text (st .lexer)) st
+
+-- ---- where both stand
+
+abbrev pub lastOf : St → LOC
+lastOf (pos l c ts) = l
+
+abbrev pub waitingOf : St → List Lexeme
+waitingOf (pos l c ts) = c
+
+abbrev pub leftOf : St → List Lexeme
+leftOf (pos l c ts) = ts
+
+-- the number of the next node, the node table, the comments that have an owner, the comment table without them
+pub record Frame : Type 0 where
+  pub number : ℕ
+  pub nodes : List ℕ
+  pub owned : List (List ℕ)
+  pub comments : List ℕ
+
+-- the forest f was read from the frame on, its trees' parent being p, into a table whose first record is node b; the numbers of nodes
+-- and comments stay small: at least i nodes more than those that the tokens left can have
+pub record At (text : List ℕ) (i b p : ℕ) (frame : Frame) (f : Forest) (st : State) (t u : List ℕ) (s : St) : Type 0 where
+  pub last : st .last ≡ lastOf s
+  pub ahead : AheadOf text st (leftOf s)
+  pub next : st .next ≡ frame .number + sizes f
+  pub nodes : t ≡ lay (frame .number - b) (rowsOf f p (frame .number)) (frame .nodes)
+  pub count : st .owned ≡ length (frame .owned) + noteCounts f
+  pub waits : st .waiting ≡ length (waitingOf s)
+  pub comments : u ≡ lay 0 ((frame .owned ++ commentRowsOf f (frame .number)) ++ owned 0 (waitingOf s)) (frame .comments)
+  pub credit : st .next + 2 * length (leftOf s) + i ≤ 131080
+  pub space : st .owned + (length (waitingOf s) + length (leftOf s)) ≤ 65536
+  pub based : b ≤ frame .number
+  pub wide : All Wide (frame .owned)
+
+-- with less to spare
+pub fewer : {text : List ℕ} {i j b p : ℕ} {fr : Frame} {f : Forest} {st : State} {t u : List ℕ} {s : St} → j ≤ i → At text i b p fr f st t u s
+    → At text j b p fr f st t u s
+fewer l h =
+    record {
+      last = h .last;
+      ahead = h .ahead;
+      next = h .next;
+      nodes = h .nodes;
+      count = h .count;
+      waits = h .waits;
+      comments = h .comments;
+      credit = omega (arith, h .credit);
+      space = h .space;
+      based = h .based;
+      wide = h .wide;
+    }
+
+pub less : {text : List ℕ} {i b p : ℕ} {fr : Frame} {f : Forest} {st : State} {t u : List ℕ} {s : St} → At text (suc i) b p fr f st t u s
+    → At text i b p fr f st t u s
+less h = fewer (omega arith) h
+
+-- the same forest, said otherwise
+pub regrown : {text : List ℕ} {i b p : ℕ} {fr : Frame} {f g : Forest} {st : State} {t u : List ℕ} {s : St} → f ≡ g → At text i b p fr f st t u s
+    → At text i b p fr g st t u s
+regrown e h = rw e at h
+
+-- ---- what both give
+
+pub data Meant {A : Type 0} (Q : A → State → List ℕ → List ℕ → St → Type 0) : Out → Res A → Type 0 where
+  went : {a : A} {st : State} {t u : List ℕ} {s : St} → Q a st t u s → Meant Q (done st t u) (ok a s)
+  halted : {e : ℕ} {l : LOC} → Meant Q (stop e l) (no e l)
+
+module _ {A B : Type 0} {Q : A → State → List ℕ → List ℕ → St → Type 0} {R : B → State → List ℕ → List ℕ → St → Type 0} where
+  pub bind-m : {o : Out} {r : Res A} {k : M} {f : A → P B} → Meant Q o r
+      → ((a : A) (st : State) (t u : List ℕ) (s : St) → Q a st t u s → Meant R (k st t u) (f a s)) → Meant R (after o k) (bind r f)
+  unfolding after bind
+  bind-m (went {a = a} {st = st} {t = t} {u = u} {s = s} q) g = g a st t u s q
+  bind-m halted g = halted
+
+  -- the same where the code has no step of its own: it goes on from the state that it is in
+  pub here-m : {st : State} {t u : List ℕ} {r : Res A} {k : M} {f : A → P B} → Meant Q (done st t u) r
+      → ((a : A) (st : State) (t u : List ℕ) (s : St) → Q a st t u s → Meant R (k st t u) (f a s)) → Meant R (k st t u) (bind r f)
+  unfolding bind
+  here-m (went {a = a} {st = st} {t = t} {u = u} {s = s} q) g = g a st t u s q
+
+  -- the code's last step
+  pub last-m : {o : Out} {r : Res A} {f : A → P B} → Meant Q o r
+      → ((a : A) (st : State) (t u : List ℕ) (s : St) → Q a st t u s → Meant R (done st t u) (f a s)) → Meant R o (bind r f)
+  unfolding bind
+  last-m (went {a = a} {st = st} {t = t} {u = u} {s = s} q) g = g a st t u s q
+  last-m halted g = halted
+
+pub weak-m : {A : Type 0} {Q R : A → State → List ℕ → List ℕ → St → Type 0} {o : Out} {r : Res A}
+    → ((a : A) (st : State) (t u : List ℕ) (s : St) → Q a st t u s → R a st t u s) → Meant Q o r → Meant R o r
+weak-m g (went {a = a} {st = st} {t = t} {u = u} {s = s} q) = went (g a st t u s q)
+weak-m g halted = halted
+
+module _ {A : Type 0} {Q : A → State → List ℕ → List ℕ → St → Type 0} where
+  pub cond-m : {o v : Out} (p q : P A) (s : St) (c b : Bool) → c ≡ b → (b ≡ true → Meant Q o (p s)) → (b ≡ false → Meant Q v (q s))
+      → Meant Q (cond c o v) (test b p q s)
+  unfolding test
+  cond-m p q s c true e f g = rw e (f refl)
+  cond-m p q s c false e f g = rw e (g refl)
+
+  -- by a test whose branches the code has the other way round
+  pub unless-m : {o v : Out} (p q : P A) (s : St) (c b : Bool) → c ≡ not b → (b ≡ true → Meant Q v (p s)) → (b ≡ false → Meant Q o (q s))
+      → Meant Q (cond c o v) (test b p q s)
+  unfolding test
+  unless-m p q s c true e f g = rw e (f refl)
+  unless-m p q s c false e f g = rw e (g refl)
+
+  pub grouped : (o : Out) (k j : M) {r : Res A} → Meant Q (after o (λ st t u. after (k st t u) j)) r → Meant Q (after (after o k) j) r
+  unfolding after
+  grouped (done st t u) k j h = h
+  grouped (stop e l) k j h = h
+
+-- a reader of the code means a reader of the definitions that gives the forest G, for nodes of the parent p in a table whose first record is node b
+abbrev pub Means : {A : Type 0} → List ℕ → ℕ → ℕ → ℕ → (A → Forest) → M → P A → Type 0
+Means text i b p G m q =
+    (fr : Frame) (f : Forest) (st : State) (t u : List ℕ) (s : St) → At text i b p fr f st t u s → Meant (λ a. At text i b p fr (f ⊕ G a)) (m st t u) (q s)

@@ -1,0 +1,250 @@
+-- The code (its model, specs/Into) passes over separators and comments as the definitions do; comments that wait stand behind those that have an owner.
+--     separators-m        skip-separator
+--     discard-m           skip-comments-discard
+--     comments-m          skip-comments
+--     trivia-m            skip-trivia
+--     separator-test, comment-test    the code's tests of a kind's number
+-- Assumes nothing.
+use mathlib.Core.Path.{_≡_, refl, sym, ap, _∙_}
+use mathlib.Core.Bool.{Bool, true, false, cond}
+use mathlib.Core.List.{List, [], _∷_, _++_, append-assoc}
+use Prim.Native.Nat.{ℕ, zero, suc, _+_, _≤_, _<_}
+use native.Mathlib.Omega.{arith}
+use lib.Dec.{eqb}
+use lib.ListN.{length, length-append}
+use Rattle.token.specs.Code.{code, is, among}
+use Rattle.token.specs.declared.Token.{Token}
+use Rattle.lexer.specs.declared.location.LOC.{LOC}
+use Rattle.lexer.specs.Tokens.{Lexeme, lexeme}
+use Rattle.ast.specs.Tree.{Forest}
+use Rattle.ast.specs.Records.{row, owned, commentRow, commentRowsOf}
+use Rattle.ast.proofs.Counts.{note-counts, owned-count}
+use Rattle.steps.specs.declared.state.State.{State}
+use Rattle.parser.specs.Steps as S
+use Rattle.parser.specs.Steps.{
+  kind,
+  place,
+  St,
+  pos,
+  ok,
+  Fate,
+  over,
+  wait,
+  fate,
+  by,
+  pass,
+  skip,
+  skip-separator,
+  skip-comments,
+  skip-comments-discard,
+  skip-trivia,
+}
+use Rattle.parser.specs.Definitions.{separators}
+use Rattle.steps.specs.Into.{
+  put,
+  advanced,
+  most,
+  isSeparator,
+  isComment,
+  passes,
+  skipFrom,
+  skipIn,
+  waits,
+  putWaiting,
+  skipCommentsFrom,
+  skipCommentsIn,
+}
+use Rattle.parser.proofs.Wf.{commentKinds}
+use Rattle.parser.proofs.KindLaws.{all, same, agree, Tests, apart}
+use Rattle.steps.proofs.TableLaws.{lay, lay-append}
+use Rattle.steps.proofs.Seen.{small-bump, First, over as ended, on, AheadOf, advance-ahead, moved, Frame, At, less, Meant, went}
+use Rattle.steps.proofs.StepLaws.{first-ahead, step-at}
+
+-- ---- the tests of the code
+
+pub separator-test : Tests isSeparator separators
+unfolding all same code is among isSeparator
+separator-test = record { agrees = agree (λ k. isSeparator (code k)) (λ k. among k separators) refl refl; fails = refl }
+
+pub comment-test : Tests isComment commentKinds
+unfolding all same code is among isComment
+comment-test = record { agrees = agree (λ k. isComment (code k)) (λ k. among k commentKinds) refl refl; fails = refl }
+
+-- ---- the fates of kinds
+
+same-both : (b : Bool) → cond b S.stop S.stop ≡ S.stop
+same-both true = refl
+same-both false = refl
+
+separators-over : (k : Token) → fate over S.stop k ≡ cond (among k separators) over S.stop
+unfolding fate
+separators-over k = rw (same-both (among k commentKinds))
+
+by-comment : {X : Type 0} (k : Token) → (among k commentKinds ≡ true → X) → (among k commentKinds ≡ false → X) → X
+by-comment {X} k f g = go (among k commentKinds) refl
+  where
+    go : (b : Bool) → among k commentKinds ≡ b → X
+    go true e = f e
+    go false e = g e
+
+comments-over : (k : Token) → fate S.stop over k ≡ cond (among k commentKinds) over S.stop
+unfolding fate
+comments-over k = by-comment k (λ e. rw (apart k e, e)) (λ e. rw e (same-both (among k separators)))
+
+waits-first : (f : Fate) (k : Token) → fate f wait k ≡ cond (among k commentKinds) wait (cond (among k separators) f S.stop)
+unfolding fate
+waits-first f k = by-comment k (λ e. rw (apart k e, e)) (λ e. rw e)
+
+-- ---- tokens that are passed over
+
+module _ (text : List ℕ) (short : length text ≤ 65536) (i b p : ℕ) (fr : Frame) (f : Forest) (t : List ℕ) where
+  passing : (w : Bool) (ks : List Token) → Tests (λ n. passes n w) ks → (st : State) (tok : Lexeme) → First text (st .kind) (st .loc) tok
+      → passes (st .kind) w ≡ among (kind tok) ks
+  passing w ks test st tok h = ap (λ (n : ℕ). passes n w) (h .coded) ∙ test .agrees (kind tok)
+
+  module _ (w : Bool) (F : Token → Fate) (ks : List Token) (test : Tests (λ n. passes n w) ks) (fates : (k : Token) → F k ≡ cond (among k ks) over S.stop)
+      (u : List ℕ) (c : List Lexeme) where
+    Skips : ℕ → Type 0
+    Skips n = (st : State) (l : LOC) (ts : List Lexeme) → At text i b p fr f st t u (pos l c ts) → length ts < n
+        → At text i b p fr f (skipFrom text w n st) t u (pass F l c ts)
+
+    skip-on : (n : ℕ) → Skips n → (st : State) (l : LOC) (tok : Lexeme) (ts : List Lexeme) → At text i b p fr f st t u (pos l c (tok ∷ ts)) → length ts < n
+        → (z : Bool) → among (kind tok) ks ≡ z → At text i b p fr f (skipFrom text w (suc n) st) t u (pass F l c (tok ∷ ts))
+    unfolding Skips skipFrom pass by
+    skip-on n ih st l tok ts h m true e =
+        rw (passing w ks test st tok (first-ahead (h .ahead)), fates (kind tok), e) (ih (advanced text st) (place tok) ts (less (less (step-at text short h))) m)
+    skip-on n ih st l tok ts h m false e = rw (passing w ks test st tok (first-ahead (h .ahead)), fates (kind tok), e) h
+
+    skips : (n : ℕ) → Skips n
+    unfolding Skips skipFrom pass
+    skips zero st l ts h m = absurd (omega arith)
+    skips (suc n) st l [] h m = go (h .ahead)
+      where
+        go : AheadOf text st [] → At text i b p fr f (skipFrom text w (suc n) st) t u (pos l c [])
+        go (ended e) = let z : passes (st .kind) w ≡ false = ap (λ (n : ℕ). passes n w) e ∙ test .fails in rw z h
+    skips (suc n) st l (tok ∷ ts) h m = skip-on n (skips n) st l tok ts h (omega arith) (among (kind tok) ks) refl
+
+  -- ---- comments that wait
+
+  more-rows : (xs ys : List (List ℕ)) (r v : List ℕ) (n : ℕ) → length xs + length ys ≡ n → put n r (lay 0 (xs ++ ys) v) ≡ lay 0 (xs ++ (ys ++ r ∷ [])) v
+  unfolding lay
+  more-rows xs ys r v n e =
+      let g : 0 + length (xs ++ ys) ≡ n = omega (arith, length-append xs ys) in
+      sym (rw (← (append-assoc xs ys (r ∷ [])), lay-append 0 (xs ++ ys) (r ∷ []) v, g))
+
+  owned-more : (n : ℕ) (c : List Lexeme) (tok : Lexeme) → owned n (c ++ tok ∷ []) ≡ owned n c ++ commentRow n tok ∷ []
+  unfolding owned
+  owned-more n [] tok = refl
+  owned-more n (x ∷ c) tok = ap (λ (l : List (List ℕ)). commentRow n x ∷ l) (owned-more n c tok)
+
+  -- the record that the code writes for the comment ahead
+  waiting-row : (st : State) (tok : Lexeme) → First text (st .kind) (st .loc) tok → row (cond (eqb (st .kind) 48) 32 33) 0 0 (st .loc) ≡ commentRow 0 tok
+  unfolding commentRow kind place is code
+  waiting-row st (lexeme k w l) h = rw (h .coded, h .placed)
+
+  waited : (st : State) (u : List ℕ) (l : LOC) (c : List Lexeme) (tok : Lexeme) (ts : List Lexeme) → At text i b p fr f st t u (pos l c (tok ∷ ts))
+      → AheadOf text st (tok ∷ ts)
+      → At text i b p fr f (advanced text (waits st)) t (putWaiting st u) (pos (place tok) (c ++ tok ∷ []) ts)
+  unfolding waits putWaiting
+  waited st u l c tok ts h (on a e x) =
+      let m = moved text (waits st) in
+      let n = st .owned + st .waiting in
+      let xs = fr .owned ++ commentRowsOf f (fr .number) in
+      record {
+        last = m .last ∙ a .placed;
+        ahead = rw (← e) at (advance-ahead text short (waits st) x);
+        next = m .next ∙ h .next;
+        nodes = h .nodes;
+        count = m .owned ∙ h .count;
+        waits = m .waiting ∙ small-bump (st .waiting) (omega (arith, h .space, h .waits)) ∙ omega (arith, h .waits, length-append c (tok ∷ []));
+        comments =
+            ap (λ (r : List ℕ). put n r u) (waiting-row st tok a) ∙ ap (put n (commentRow 0 tok)) (h .comments)
+            ∙ more-rows xs (owned 0 c) (commentRow 0 tok) (fr .comments) n
+            (omega (arith, length-append (fr .owned) (commentRowsOf f (fr .number)), note-counts f (fr .number), owned-count 0 c, h .count, h .waits))
+            ∙ ap (λ (y : List (List ℕ)). lay 0 (xs ++ y) (fr .comments)) (sym (owned-more 0 c tok));
+        credit = omega (arith, h .credit, m .next);
+        space = omega (arith, h .space, m .owned, length-append c (tok ∷ []));
+        based = h .based;
+        wide = h .wide;
+      }
+
+  module _ (w : Bool) (q : Fate) (F : Token → Fate) (fates : (k : Token) → F k ≡ cond (among k commentKinds) wait (cond (among k separators) q S.stop))
+      (what : q ≡ cond w over S.stop) where
+    Waits : ℕ → Type 0
+    Waits n = (st : State) (u : List ℕ) (l : LOC) (c ts : List Lexeme) → At text i b p fr f st t u (pos l c ts) → length ts < n
+        → Meant (λ (a : Unit {0}). At text i b p fr f) (skipCommentsFrom text w n st t u) (ok tt (pass F l c ts))
+
+    -- the code's tests of the token ahead
+    commented : (st : State) (tok : Lexeme) → First text (st .kind) (st .loc) tok → isComment (st .kind) ≡ among (kind tok) commentKinds
+    commented st tok h = ap isComment (h .coded) ∙ comment-test .agrees (kind tok)
+
+    separated : (st : State) (tok : Lexeme) → First text (st .kind) (st .loc) tok → isSeparator (st .kind) ≡ among (kind tok) separators
+    separated st tok h = ap isSeparator (h .coded) ∙ separator-test .agrees (kind tok)
+
+    wait-separator : (n : ℕ) → Waits n → (st : State) (u : List ℕ) (l : LOC) (c : List Lexeme) (tok : Lexeme) (ts : List Lexeme)
+        → At text i b p fr f st t u (pos l c (tok ∷ ts)) → length ts < n
+        → among (kind tok) commentKinds ≡ false → (v y : Bool) → w ≡ v → among (kind tok) separators ≡ y
+        → Meant (λ (a : Unit {0}). At text i b p fr f) (skipCommentsFrom text w (suc n) st t u) (ok tt (pass F l c (tok ∷ ts)))
+    unfolding Waits skipCommentsFrom pass by
+    wait-separator n ih st u l c tok ts h m z true true a e =
+        rw (commented st tok (first-ahead (h .ahead)), fates (kind tok), z, separated st tok (first-ahead (h .ahead)), e, what, a)
+        (rw a at (ih (advanced text st) u (place tok) c ts (less (less (step-at text short h))) m))
+    wait-separator n ih st u l c tok ts h m z true false a e =
+        rw (commented st tok (first-ahead (h .ahead)), fates (kind tok), z, separated st tok (first-ahead (h .ahead)), e, a) (went h)
+    wait-separator n ih st u l c tok ts h m z false true a e = rw (commented st tok (first-ahead (h .ahead)), fates (kind tok), z, e, what, a) (went h)
+    wait-separator n ih st u l c tok ts h m z false false a e = rw (commented st tok (first-ahead (h .ahead)), fates (kind tok), z, e, a) (went h)
+
+    wait-on : (n : ℕ) → Waits n → (st : State) (u : List ℕ) (l : LOC) (c : List Lexeme) (tok : Lexeme) (ts : List Lexeme)
+        → At text i b p fr f st t u (pos l c (tok ∷ ts)) → length ts < n
+        → (z : Bool) → among (kind tok) commentKinds ≡ z
+        → Meant (λ (a : Unit {0}). At text i b p fr f) (skipCommentsFrom text w (suc n) st t u) (ok tt (pass F l c (tok ∷ ts)))
+    unfolding Waits skipCommentsFrom pass by
+    wait-on n ih st u l c tok ts h m true e =
+        rw (commented st tok (first-ahead (h .ahead)), fates (kind tok), e)
+        (ih (advanced text (waits st)) (putWaiting st u) (place tok) (c ++ tok ∷ []) ts (waited st u l c tok ts h (h .ahead)) m)
+    wait-on n ih st u l c tok ts h m false e = wait-separator n ih st u l c tok ts h m e w (among (kind tok) separators) refl refl
+
+    none-waits : (v : Bool) (n : ℕ) (st : State) (u : List ℕ) (l : LOC) (c : List Lexeme) → At text i b p fr f st t u (pos l c []) → AheadOf text st []
+        → Meant (λ (a : Unit {0}). At text i b p fr f) (skipCommentsFrom text v (suc n) st t u) (ok tt (pos l c []))
+    unfolding skipCommentsFrom
+    none-waits true n st u l c h (ended e) =
+        let y : isComment (st .kind) ≡ false = ap isComment e ∙ comment-test .fails in
+        let z : isSeparator (st .kind) ≡ false = ap isSeparator e ∙ separator-test .fails in
+        rw (y, z) (went h)
+    none-waits false n st u l c h (ended e) = let y : isComment (st .kind) ≡ false = ap isComment e ∙ comment-test .fails in rw y (went h)
+
+    all-wait : (n : ℕ) → Waits n
+    unfolding Waits pass
+    all-wait zero st u l c ts h m = absurd (omega arith)
+    all-wait (suc n) st u l c [] h m = none-waits w n st u l c h (h .ahead)
+    all-wait (suc n) st u l c (tok ∷ ts) h m = wait-on n (all-wait n) st u l c tok ts h (omega arith) (among (kind tok) commentKinds) refl
+
+-- ---- the four
+
+module _ (text : List ℕ) (short : length text ≤ 65536) {i b p : ℕ} {fr : Frame} {f : Forest} {st : State} {t u : List ℕ} where
+  discards : (w : Bool) (F : Token → Fate) (ks : List Token) → Tests (λ n. passes n w) ks → ((k : Token) → F k ≡ cond (among k ks) over S.stop)
+      → (s : St) → At text i b p fr f st t u s → Meant (λ (a : Unit {0}). At text i b p fr f) (skipIn text w st t u) (skip F s)
+  unfolding skipIn skip most Skips
+  discards w F ks x y (pos l c ts) h = went (skips text short i b p fr f t w F ks x y u c 65537 st l ts h (omega (arith, h .space)))
+
+  keeps : (w : Bool) (q : Fate) (F : Token → Fate) → ((k : Token) → F k ≡ cond (among k commentKinds) wait (cond (among k separators) q S.stop))
+      → q ≡ cond w over S.stop
+      → (s : St) → At text i b p fr f st t u s → Meant (λ (a : Unit {0}). At text i b p fr f) (skipCommentsIn text w st t u) (skip F s)
+  unfolding skipCommentsIn skip most Waits
+  keeps w q F x y (pos l c ts) h = all-wait text short i b p fr f t w q F x y 65537 st u l c ts h (omega (arith, h .space))
+
+  pub separators-m : (s : St) → At text i b p fr f st t u s → Meant (λ (a : Unit {0}). At text i b p fr f) (skipIn text true st t u) (skip-separator s)
+  unfolding skip-separator passes
+  separators-m = discards true (fate over S.stop) separators separator-test separators-over
+
+  pub discard-m : (s : St) → At text i b p fr f st t u s → Meant (λ (a : Unit {0}). At text i b p fr f) (skipIn text false st t u) (skip-comments-discard s)
+  unfolding skip-comments-discard passes
+  discard-m = discards false (fate S.stop over) commentKinds comment-test comments-over
+
+  pub comments-m : (s : St) → At text i b p fr f st t u s → Meant (λ (a : Unit {0}). At text i b p fr f) (skipCommentsIn text false st t u) (skip-comments s)
+  unfolding skip-comments
+  comments-m = keeps false S.stop (fate S.stop wait) (waits-first S.stop) refl
+
+  pub trivia-m : (s : St) → At text i b p fr f st t u s → Meant (λ (a : Unit {0}). At text i b p fr f) (skipCommentsIn text true st t u) (skip-trivia s)
+  unfolding skip-trivia
+  trivia-m = keeps true over (fate over wait) (waits-first over) refl

@@ -1,0 +1,16 @@
+-- `steps::start_of` meets its contract. Assumes nothing.
+use borrow.Author.Tests.{eq-eqb, ne-eqb}
+use Rattle.steps.specs.Into.{startAt}
+use Rattle.steps.proofs.start_of.Statement.{statement}
+use Rattle.steps.proofs.start_of.Tie as tie
+
+returns : tie.Need-returns
+unfolding startAt
+returns c = rw (eq-eqb _ _ (c .before .if1 .taken))
+
+returns-2 : tie.Need-returns-2
+unfolding startAt
+returns-2 c = rw (ne-eqb _ _ (c .before .if1 .left))
+
+pub start-of-spec : {M : Type 1} → statement M
+start-of-spec = tie.close (tie.spec returns returns-2)

@@ -1,0 +1,212 @@
+-- What the code's steps do to the state and to both tables: parser/specs/Steps, with records written as they are read. Contracts of this crate and of those
+-- above it cite it, and reader/proofs/Meant shows that it means the definitions; nothing else has to believe it. Assumes nothing: these are definitions.
+use mathlib.Core.Path.{_≡_}
+use mathlib.Core.Bool.{Bool, true, false, cond, _||_}
+use mathlib.Core.List.{List, [], _∷_, _++_}
+use Prim.Native.Nat.{ℕ, zero, suc, _+_, _*_, _-_, _≤_}
+use lib.Dec.{eqb, ltb, leb}
+use lib.ListN.{length, take, drop, set, replicate}
+use Rattle.token.specs.Code.{code}
+use Rattle.token.specs.Tables.{classes, trie}
+use Rattle.lexer.specs.declared.location.Lexer.{Lexer}
+use Rattle.lexer.specs.declared.location.Span.{Span}
+use Rattle.lexer.specs.declared.location.LOC.{LOC}
+use Rattle.lexer.specs.declared.location.Next.{Next}
+use Rattle.lexer.specs.declared.location.Next.the-variants as N
+use Rattle.lexer.specs.Tokens as L
+use Rattle.ast.specs.Records.{width, row, room}
+use Rattle.parser.specs.Definitions.{isId}
+use Rattle.steps.specs.declared.state.State.{State}
+use Rattle.steps.specs.declared.state.Parsed.{Parsed}
+use Rattle.steps.specs.declared.state.Parsed.the-variants.{On, Refused}
+
+-- what every reader is lent: the lexer's tables, and a text that passed 20
+pub record Lent (class nodes text : List ℕ) : Type 0 where
+  pub classed : class ≡ classes
+  pub spelled : nodes ≡ trie
+  pub short : length text ≤ 65536
+
+-- the state and both tables afterwards; or document 01's number and a place
+pub data Out : Type 0 where
+  done : State → List ℕ → List ℕ → Out
+  stop : ℕ → LOC → Out
+
+abbrev pub M : Type 0
+M = State → List ℕ → List ℕ → Out
+
+unfoldable pub after : Out → M → Out
+after (done st t u) k = k st t u
+after (stop n l) k = stop n l
+
+infixr 20 _⨟_
+abbrev pub _⨟_ : M → M → M
+_⨟_ m k = λ st t u. after (m st t u) k
+
+-- what the code's answer shows
+unfoldable pub shows : Parsed → List ℕ → List ℕ → Out
+shows (On st) t u = done st t u
+shows (Refused n l) t u = stop n l
+
+-- the contracts of a reader that is lent both tables, the node table, none
+abbrev pub Reads : M → State → Parsed → List ℕ → List ℕ → List ℕ → List ℕ → Type 0
+Reads m st r t t′ u u′ = shows r t′ u′ ≡ m st t u
+
+abbrev pub Quiet : M → State → Parsed → List ℕ → List ℕ → Type 0
+Quiet m st r t t′ = (u : List ℕ) → shows r t′ u ≡ m st t u
+
+abbrev pub Still : M → State → Parsed → Type 0
+Still m st r = (t u : List ℕ) → shows r t u ≡ m st t u
+
+-- of a step that returns the state, and is lent the comment table, or the node table
+abbrev pub Keeps : M → State → State → List ℕ → List ℕ → Type 0
+Keeps m st r u u′ = (t : List ℕ) → done r t u′ ≡ m st t u
+
+abbrev pub Puts : M → State → State → List ℕ → List ℕ → Type 0
+Puts m st r t t′ = (u : List ℕ) → done r t′ u ≡ m st t u
+
+-- ---- numbers that do not pass the largest
+
+unfoldable pub largest : ℕ
+largest = 4294967295
+
+unfoldable pub bump : ℕ → ℕ
+bump n = cond (ltb n largest) (n + 1) n
+
+unfoldable pub sum : ℕ → ℕ → ℕ
+sum a b = cond (leb a (largest - b)) (a + b) largest
+
+-- ---- records
+
+-- record i of a table, if it holds that one
+unfoldable pub put : ℕ → List ℕ → List ℕ → List ℕ
+put i r t = cond (leb (room t) i) t (take (i * width) t ++ (r ++ drop (i * width + width) t))
+
+unfoldable pub putParent : ℕ → ℕ → List ℕ → List ℕ
+putParent i p t = cond (leb (room t) i) t (set t (i * width + 1) p)
+
+-- where record n starts in a table of so many numbers, and its rest from there on
+unfoldable pub restAt : ℕ → ℕ → ℕ
+restAt len n = cond (ltb (n * width) len) (n * width) len
+
+-- 0 from an index on
+unfoldable pub wiped : ℕ → List ℕ → List ℕ
+wiped i t = take i t ++ replicate (length t - i) 0
+
+-- node n, in the table whose first record is node b
+unfoldable pub placeOf : ℕ → ℕ → ℕ
+placeOf b n = n - b
+
+unfoldable pub opened : State → State
+opened st = record { lexer = st .lexer; kind = st .kind; loc = st .loc; last = st .last; next = bump (st .next); owned = st .owned; waiting = st .waiting }
+
+-- the last token taken, as a node
+unfoldable pub leafIn : ℕ → ℕ → ℕ → M
+leafIn k b p st t u = done (opened st) (put (placeOf b (st .next)) (row k p 0 (st .last)) t) u
+
+-- a node from a place to the end of the last token taken
+unfoldable pub putNode : ℕ → ℕ → ℕ → Span → ℕ → ℕ → State → List ℕ → List ℕ
+putNode n k f s b p st t = put (placeOf b n) (row k p f (record { start = s; end = st .last .end })) t
+
+unfoldable pub nodeIn : ℕ → ℕ → ℕ → Span → ℕ → ℕ → M
+nodeIn n k f s b p st t u = done st (putNode n k f s b p st t) u
+
+-- ---- steps
+
+-- the token behind the lexer; none where the lexer stands in no text
+unfoldable pub lookAt : List ℕ → Lexer → Next
+lookAt t s = cond (ltb 65536 (s .at)) N.End (cond (ltb (s .at) (s .line)) N.End (cond (ltb (s .at) (s .origin)) N.End (L.next t s)))
+
+unfoldable pub aheadOf : Next → State → State
+aheadOf (N.On p s) st =
+    record { lexer = s; kind = code (p .token); loc = p .loc; last = st .loc; next = st .next; owned = st .owned; waiting = st .waiting }
+aheadOf N.End st =
+    record { lexer = st .lexer; kind = 255; loc = st .loc; last = st .loc; next = st .next; owned = st .owned; waiting = st .waiting }
+aheadOf (N.Unrecognized p) st =
+    record { lexer = st .lexer; kind = 255; loc = st .loc; last = st .loc; next = st .next; owned = st .owned; waiting = st .waiting }
+
+unfoldable pub advanced : List ℕ → State → State
+advanced text st = aheadOf (lookAt text (st .lexer)) st
+
+unfoldable pub advanceIn : List ℕ → M
+advanceIn text st t u = done (advanced text st) t u
+
+unfoldable pub refused : ℕ → State → Out
+refused e st = cond (eqb (st .kind) 255) (stop 3 (st .last)) (stop e (st .loc))
+
+unfoldable pub refuseIn : ℕ → M
+refuseIn e st t u = refused e st
+
+unfoldable pub startAt : State → Span
+startAt st = cond (eqb (st .kind) 255) (st .last .start) (st .loc .start)
+
+unfoldable pub takeIn : List ℕ → M
+takeIn text st t u = cond (eqb (st .kind) 255) (refused 3 st) (done (advanced text st) t u)
+
+unfoldable pub expectIn : List ℕ → ℕ → ℕ → M
+expectIn text k e st t u = cond (eqb (st .kind) k) (takeIn text st t u) (refused e st)
+
+-- more members, and more tokens, than a text can have
+unfoldable pub most : ℕ
+most = 65537
+
+unfoldable pub isSeparator : ℕ → Bool
+isSeparator k = eqb k 44 || eqb k 42
+
+unfoldable pub isComment : ℕ → Bool
+isComment k = eqb k 48 || eqb k 49
+
+unfoldable pub passes : ℕ → Bool → Bool
+passes k s = cond s (isSeparator k) (isComment k)
+
+unfoldable pub skipFrom : List ℕ → Bool → ℕ → State → State
+skipFrom text s zero st = st
+skipFrom text s (suc n) st = cond (passes (st .kind) s) (skipFrom text s n (advanced text st)) st
+
+unfoldable pub skipIn : List ℕ → Bool → M
+skipIn text s st t u = done (skipFrom text s most st) t u
+
+-- the comment ahead waits
+unfoldable pub waits : State → State
+waits st = record { lexer = st .lexer; kind = st .kind; loc = st .loc; last = st .last; next = st .next; owned = st .owned; waiting = bump (st .waiting) }
+
+unfoldable pub putWaiting : State → List ℕ → List ℕ
+putWaiting st u = put (st .owned + st .waiting) (row (cond (eqb (st .kind) 48) 32 33) 0 0 (st .loc)) u
+
+unfoldable pub waitIn : M
+waitIn st t u = done (waits st) t (putWaiting st u)
+
+unfoldable pub skipCommentsFrom : List ℕ → Bool → ℕ → M
+skipCommentsFrom text s zero st t u = done st t u
+skipCommentsFrom text s (suc n) st t u =
+    cond (isComment (st .kind)) (skipCommentsFrom text s n (advanced text (waits st)) t (putWaiting st u))
+    (cond s (cond (isSeparator (st .kind)) (skipCommentsFrom text s n (advanced text st) t u) (done st t u)) (done st t u))
+
+unfoldable pub skipCommentsIn : List ℕ → Bool → M
+skipCommentsIn text s = skipCommentsFrom text s most
+
+-- the comments that wait go to a node
+unfoldable pub parents : ℕ → ℕ → ℕ → List ℕ → List ℕ
+parents i zero p u = u
+parents i (suc n) p u = parents (i + 1) n p (putParent i p u)
+
+unfoldable pub owns : State → State
+owns st = record { lexer = st .lexer; kind = st .kind; loc = st .loc; last = st .last; next = st .next; owned = sum (st .owned) (st .waiting); waiting = 0 }
+
+unfoldable pub ownIn : ℕ → M
+ownIn p st t u = done (owns st) t (parents (st .owned) (st .waiting) p u)
+
+-- members until a state that closes
+unfoldable pub loopIn : (State → Bool) → M → M → M → ℕ → M
+loopIn closes skips shut member zero = refuseIn 3
+loopIn closes skips shut member (suc n) =
+    skips ⨟ λ st t u. cond (closes st) (shut st t u) ((member ⨟ loopIn closes skips shut member n) st t u)
+
+unfoldable pub closesAt : ℕ → State → Bool
+closesAt k st = eqb (st .kind) k
+
+-- ---- ids
+
+unfoldable pub isIdAt : List ℕ → LOC → Bool
+isIdAt text l =
+    cond (ltb (length text) (l .end .index)) false
+    (cond (ltb (l .end .index) (l .start .index)) false (isId (take (l .end .index - l .start .index) (drop (l .start .index) text))))

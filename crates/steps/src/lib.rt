@@ -1,0 +1,260 @@
+// The steps over tokens: rico's parser/token.rs.
+pub mod id;
+pub mod state;
+pub mod table;
+
+ghost use mathlib.Core.Path.{_≡_};
+ghost use Rattle.steps.specs.Into.{Keeps, Lent, Still, lookAt, aheadOf, advanced, refuseIn, startAt, takeIn, expectIn, most, isSeparator, isComment, passes, skipFrom, waitIn, skipCommentsIn, ownIn};
+use lexer::location::Lexer;
+use lexer::location::Next;
+use lexer::location::Span;
+use state::MOST;
+use state::NONE;
+use state::Parsed;
+use state::State;
+
+// The token behind the lexer; none where the lexer stands in no text.
+fn look(class: &[u8; 256], trie: &[u8; 512], text: &[u8], lexer: Lexer) -> Next
+    requires { ⌜ Lent (now class) (now trie) (now text) ⌝ }
+    ensures { λ r. ⌜ r ≡ lookAt (now (text .entry)) lexer ⌝ }
+{
+    if 65536 < lexer.at {
+        return Next::End;
+    }
+    if lexer.at < lexer.line {
+        return Next::End;
+    }
+    if lexer.at < lexer.origin {
+        return Next::End;
+    }
+    lexer::next_token(class, trie, text, lexer)
+}
+
+// The state with that token ahead, the one ahead taken.
+fn ahead(found: Next, st: State) -> State
+    ensures { λ r. ⌜ r ≡ aheadOf found st ⌝ }
+{
+    let last = st.loc;
+    match found {
+        Next::On(token, lexer) => {
+            let kind = token.token;
+            let loc = token.loc;
+            State {
+                lexer,
+                kind: kind.code(),
+                loc,
+                last,
+                next: st.next,
+                owned: st.owned,
+                waiting: st.waiting,
+            }
+        }
+        _ => {
+            let lexer = st.lexer;
+            let loc = st.loc;
+            State {
+                lexer,
+                kind: NONE,
+                loc,
+                last,
+                next: st.next,
+                owned: st.owned,
+                waiting: st.waiting,
+            }
+        }
+    }
+}
+
+// advance
+pub fn advance(class: &[u8; 256], trie: &[u8; 512], text: &[u8], st: State) -> State
+    requires { ⌜ Lent (now class) (now trie) (now text) ⌝ }
+    ensures { λ r. ⌜ r ≡ advanced (now (text .entry)) st ⌝ }
+{
+    let found = look(class, trie, text, st.lexer);
+    ahead(found, st)
+}
+
+// A refusal at the token ahead; with none left 3 at the last one, which the end rule makes 3 or 1.
+pub fn refuse(st: State, number: u32) -> Parsed
+    ensures { λ r. ⌜ Still (refuseIn number) st r ⌝ }
+{
+    if st.kind == NONE {
+        let last = st.last;
+        return Parsed::Refused(3, last);
+    }
+    let loc = st.loc;
+    Parsed::Refused(number, loc)
+}
+
+// start_pos: where the token ahead starts.
+pub fn start_of(st: State) -> Span
+    ensures { λ r. ⌜ r ≡ startAt st ⌝ }
+{
+    let loc = st.loc;
+    let last = st.last;
+    if st.kind == NONE {
+        last.start
+    } else {
+        loc.start
+    }
+}
+
+// The token ahead, whatever it is.
+pub fn take(class: &[u8; 256], trie: &[u8; 512], text: &[u8], st: State) -> Parsed
+    requires { ⌜ Lent (now class) (now trie) (now text) ⌝ }
+    ensures { λ r. ⌜ Still (takeIn (now (text .entry))) st r ⌝ }
+{
+    if st.kind == NONE {
+        return refuse(st, 3);
+    }
+    Parsed::On(advance(class, trie, text, st))
+}
+
+// expect_token, consume: a token of one kind, or a refusal.
+pub fn expect(
+    class: &[u8; 256],
+    trie: &[u8; 512],
+    text: &[u8],
+    st: State,
+    kind: u8,
+    number: u32,
+) -> Parsed
+    requires { ⌜ Lent (now class) (now trie) (now text) ⌝ }
+    ensures { λ r. ⌜ Still (expectIn (now (text .entry)) kind number) st r ⌝ }
+{
+    if st.kind == kind {
+        return take(class, trie, text, st);
+    }
+    refuse(st, number)
+}
+
+// skip_separator (`separators`), skip_comments_discard (else).
+pub fn skip(class: &[u8; 256], trie: &[u8; 512], text: &[u8], st: State, separators: bool) -> State
+    requires { ⌜ Lent (now class) (now trie) (now text) ⌝ }
+    ensures { λ r. ⌜ r ≡ skipFrom (now (text .entry)) separators most st ⌝ }
+{
+    let mut state = st;
+    let mut left = MOST;
+    while 0 < left {
+        if !passes(state.kind, separators) {
+            return state;
+        }
+        state = advance(class, trie, text, state);
+        left -= 1;
+    }
+    state
+}
+
+// Whether a kind is a separator; or a comment.
+fn passes(kind: u8, separators: bool) -> bool
+    ensures { λ r. ⌜ r ≡ passes kind separators ⌝ }
+{
+    if separators {
+        return is_separator(kind);
+    }
+    is_comment(kind)
+}
+
+pub fn is_separator(kind: u8) -> bool
+    ensures { λ r. ⌜ r ≡ isSeparator kind ⌝ }
+{
+    if kind == 44 {
+        return true;
+    }
+    kind == 42
+}
+
+pub fn is_comment(kind: u8) -> bool
+    ensures { λ r. ⌜ r ≡ isComment kind ⌝ }
+{
+    if kind == 48 {
+        return true;
+    }
+    kind == 49
+}
+
+// skip_comments, and with `separators` skip_trivia: the comments wait.
+pub fn skip_comments(
+    class: &[u8; 256],
+    trie: &[u8; 512],
+    text: &[u8],
+    st: State,
+    separators: bool,
+    comments: &mut [u32],
+) -> State
+    requires { ⌜ Lent (now class) (now trie) (now text) ⌝ }
+    ensures { λ r. ⌜ Keeps (skipCommentsIn (now (text .entry)) separators) st r (now (comments .entry)) (now (comments .exit)) ⌝ }
+{
+    let mut state = st;
+    let mut left = MOST;
+    while 0 < left {
+        if is_comment(state.kind) {
+            state = wait(state, comments);
+        } else {
+            if !separators {
+                return state;
+            }
+            if !is_separator(state.kind) {
+                return state;
+            }
+        }
+        state = advance(class, trie, text, state);
+        left -= 1;
+    }
+    state
+}
+
+// The comment ahead waits: its record stands behind the others, without its owner.
+fn wait(st: State, comments: &mut [u32]) -> State
+    ensures { λ r. ⌜ Keeps (waitIn) st r (now (comments .entry)) (now (comments .exit)) ⌝ }
+{
+    let mut kind = 33;
+    if st.kind == 48 {
+        kind = 32;
+    }
+    let loc = st.loc;
+    let last = st.last;
+    let lexer = st.lexer;
+    table::put_record(
+        comments,
+        st.owned as usize + st.waiting as usize,
+        kind,
+        0,
+        0,
+        loc,
+    );
+    State {
+        lexer,
+        kind: st.kind,
+        loc,
+        last,
+        next: st.next,
+        owned: st.owned,
+        waiting: table::bump(st.waiting),
+    }
+}
+
+// take_pending_comments: those that wait go to the node with the number `owner`.
+pub fn own(st: State, owner: u32, comments: &mut [u32]) -> State
+    ensures { λ r. ⌜ Keeps (ownIn owner) st r (now (comments .entry)) (now (comments .exit)) ⌝ }
+{
+    let first = st.owned as usize;
+    let count = st.waiting as usize;
+    let mut i = 0;
+    while i < count {
+        table::put_parent(comments, first + i, owner);
+        i += 1;
+    }
+    let lexer = st.lexer;
+    let loc = st.loc;
+    let last = st.last;
+    State {
+        lexer,
+        kind: st.kind,
+        loc,
+        last,
+        next: st.next,
+        owned: table::sum(st.owned, st.waiting),
+        waiting: 0,
+    }
+}
