@@ -1,7 +1,7 @@
 -- Whatever is read from good tokens is well formed. Good k w: what is known of each token; Last l: what is known of the last token's place. Assumes nothing.
 use mathlib.Core.Path.{_≡_, refl}
 use mathlib.Core.Bool.{Bool, true, false, cond}
-use mathlib.Core.List.{List, [], _∷_, _++_}
+use mathlib.Core.List.{List, [], _∷_}
 use Prim.Native.Nat.{ℕ, suc, zero, _<_}
 use native.Mathlib.Omega.{arith}
 use lib.ListN.{length}

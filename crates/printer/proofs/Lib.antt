@@ -1,16 +1,2 @@
-pub mod Chain
-pub mod Shapes
-pub mod Rounds
-pub mod Bytes
-pub mod Runs
 pub mod Whole
-pub mod Ahead
-pub mod Follow
-pub mod PrintedLeaves
-pub mod PrintedTypes
-pub mod PrintedComments
-pub mod PrintedValues
-pub mod PrintedFields
-pub mod PrintedFunctions
-pub mod PrintedDefinitions
 pub mod Meant

@@ -55,11 +55,13 @@ use Rattle.writer.specs.Print.{Piece, bytesOf, pieces, printed}
 use Rattle.writer.specs.declared.Printed.{Printed}
 use Rattle.writer.specs.declared.Printed.the-variants.{Accepted, Refused}
 use Rattle.writer.specs.Write.{widest, outcomeAt, fitted, answer, left, written, printOf, Printing, told, printing}
-use Rattle.printer.specs.declared.cursor.Cursor.{Cursor}
-use Rattle.printer.specs.Onto.{Reached, reached, documentOut, opening, refusing, fits, ended, writing, byAnswer, byReading, all}
-use Rattle.printer.proofs.Ahead.{Rows, under, unders, ownedBefore, noted, noteds, Ahead, Fits, Over, Got, got, Job, At}
-use Rattle.printer.proofs.PrintedLeaves.{Good}
-use Rattle.printer.proofs.PrintedDefinitions.{document-printed}
+use Rattle.cursor.specs.declared.Cursor.{Cursor}
+use Rattle.cursor.specs.Onto.{Reached, reached}
+use Rattle.document.specs.Onto.{documentOut}
+use Rattle.printer.specs.Onto.{opening, refusing, fits, ended, writing, byAnswer, byReading, all}
+use Rattle.document.proofs.Ahead.{Rows, under, unders, ownedBefore, noted, noteds, Ahead, Fits, Over, Got, got, Job, At}
+use Rattle.document.proofs.PrintedLeaves.{Good}
+use Rattle.document.proofs.PrintedDefinitions.{document-printed}
 
 -- ---- rows
 

@@ -12,8 +12,10 @@ use Rattle.parser.specs.declared.Answer.{Answer}
 use Rattle.parser.specs.declared.Answer.the-variants as A
 use Rattle.parser.specs.Read.{Reading, reading, told as read-told}
 use Rattle.writer.specs.Write.{Printing}
-use Rattle.printer.specs.declared.cursor.Cursor.{Cursor}
-use Rattle.printer.specs.Onto.{Reached, reached, documentOut, opening, refusing, fits, ended, writing, byAnswer, byReading, all}
+use Rattle.cursor.specs.declared.Cursor.{Cursor}
+use Rattle.cursor.specs.Onto.{Reached, reached}
+use Rattle.document.specs.Onto.{documentOut}
+use Rattle.printer.specs.Onto.{opening, refusing, fits, ended, writing, byAnswer, byReading, all}
 
 pub written-is : (text : List ℕ) (indent n c : ℕ) (t u o o′ : List ℕ) (p : Cursor) (r : Printing)
     → reached p o′ ≡ documentOut text t n u c indent (record { node = 0; comment = 0; length = 0 }) o → r ≡ fits n c (p .length) t u o′ → r ≡ writing text indent n c t u o

@@ -1,7 +1,4 @@
 // From a text and its tables to its print.
-mod cursor;
-mod document;
-
 ghost use mathlib.Core.Path.{_≡_};
 ghost use Prim.Native.Nat.{_≤_};
 ghost use lib.ListN.{length};

@@ -30,8 +30,8 @@ use Rattle.parser.specs.declared.Answer.the-variants as A
 use Rattle.steps.specs.declared.state.State.{State}
 use Rattle.steps.specs.declared.state.Parsed.{Parsed}
 use Rattle.steps.specs.declared.state.Parsed.the-variants.{On, Refused}
-use Rattle.parser.specs.Read.{Reading, outcomeBy, outcome, answer, left, rowsBy, reading, told}
-use Rattle.steps.specs.Into.{Out, done, stop, M, shows, restAt, loopIn, closesAt, most}
+use Rattle.parser.specs.Read.{Reading, outcomeBy, outcome, answer, left, reading, told}
+use Rattle.steps.specs.Into.{Out, done, shows, restAt, loopIn, closesAt, most}
 use Rattle.grammar.specs.Into.{definitionIn}
 use Rattle.reader.specs.Into.{inRest, restIn, betweenIn, overIn, documentIn, beginning, refusing, refusingAt, fits, judged, parsing}
 

@@ -5,7 +5,7 @@
 --     fails        a refusal at the token ahead
 --     yes, no      a test
 --     node         the node's own record, and the state returned
-use mathlib.Core.Path.{_≡_, refl, sym, ap, ap₂, _∙_}
+use mathlib.Core.Path.{_≡_, sym, ap, ap₂, _∙_}
 use mathlib.Core.Bool.{Bool, true, false, cond}
 use mathlib.Core.List.{List}
 use Prim.Native.Nat.{ℕ}
@@ -16,7 +16,7 @@ use Rattle.lexer.specs.declared.location.Span.{Span}
 use Rattle.steps.specs.declared.state.State.{State}
 use Rattle.steps.specs.declared.state.Parsed.{Parsed}
 use Rattle.steps.specs.declared.state.Parsed.the-variants.{On, Refused}
-use Rattle.steps.specs.Into.{Out, done, stop, M, after, shows, nodeIn, putNode, refused, refuseIn, advanced, advanceIn}
+use Rattle.steps.specs.Into.{Out, done, M, after, shows, nodeIn, putNode, refused, refuseIn, advanced, advanceIn}
 
 module _ (W m : Out) (k : M) (w : W ≡ after m k) where
   pub on : (a : Parsed) (st : State) (t u : List ℕ) → shows a t u ≡ m → a ≡ On st → W ≡ k st t u

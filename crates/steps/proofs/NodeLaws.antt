@@ -21,7 +21,7 @@ use Rattle.ast.specs.Tree.{Tree, node, Forest, bare, grown, leaf, single}
 use Rattle.ast.specs.Records.{row, sizes, rowsOf, owned, commentRowsOf}
 use Rattle.ast.proofs.Counts.{row-width, forest-wide, comments-wide, owned-wide, owned-count, append-all, noteCounts, note-counts, rows-sizes}
 use Rattle.steps.specs.declared.state.State.{State}
-use Rattle.parser.specs.Steps.{kind, place, span, St, pos, Res, ok, no, P, bind, test, next, want, when, peek, closed, loop}
+use Rattle.parser.specs.Steps.{kind, place, span, St, pos, Res, ok, no, P, bind, test, next, when, peek, closed, loop}
 use Rattle.steps.specs.Into.{
   Out,
   done,
@@ -47,7 +47,7 @@ use Rattle.parser.proofs.KindLaws.{one-test}
 use Rattle.steps.proofs.TableLaws.{lay, lay-append, put-lay, parents-lay}
 use Rattle.steps.proofs.ForestLaws.{_⊕_, plus-bare, plus-assoc, sizes-plus, counts-plus, rows-plus, notes-plus}
 use Rattle.steps.proofs.Seen.{small-bump, small-sum, lastOf, waitingOf, Frame, At, less, regrown, Meant, went, halted, bind-m, last-m}
-use Rattle.steps.proofs.StepLaws.{some-ahead, tested, step-at, Wanted, refuse-m, expect-m, emptied}
+use Rattle.steps.proofs.StepLaws.{some-ahead, tested, step-at, Wanted, refuse-m, emptied}
 
 -- ---- a node begins
 

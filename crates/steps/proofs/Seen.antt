@@ -1,5 +1,5 @@
 -- The state and the tables of the code against the state of the meaning, and the relation of what both readers give. Here and in the laws that are
--- built on this file, the code is its model, specs/Into, and the meaning is specs/Definitions.
+-- built on this file, the code is its model, specs/Into, and the meaning is parser/specs/Definitions.
 --     Ahead, First        the token ahead of the code is the first of the tokens left
 --     Frame, At           the state and both tables stand where a forest has been read from a frame on
 --     Meant               the code and the meaning both go on, with what Q says, or both refuse, with the same number and place

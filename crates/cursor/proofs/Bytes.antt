@@ -1,0 +1,82 @@
+-- Bytes that are copied into the output, and parts of the text.
+--     number-in, number-past             a number of a record, and one behind the table's end
+--     copy-step, copy-done               a copy, byte by byte
+--     put-in, put-past, put-over         bytes that the output holds, and bytes that it does not
+--     part-past, part-back, part-in      a part that ends behind the text, one that ends before it starts, and one that lies in the text
+-- Assumes nothing.
+use mathlib.Core.Path.{_≡_, sym, _∙_}
+use mathlib.Core.List.{List, _++_, append-nil}
+use Prim.Native.Nat.{ℕ, suc, _+_, _*_, _-_, _≤_, _<_}
+use native.Mathlib.Omega.{arith}
+use borrow.Author.Tests.{lt-ltb, le-ltb, le-leb, lt-leb}
+use lib.ListN.{length, take, drop, set, getD, length-drop, drop-of-length-le, List·getD-eq-default}
+use lib.Seq.{take-all, take-suc, drop-cons, drop-drop, set-at, append-snoc, length-take-le}
+use borrow.Rule.Slice.PartMut.{putMid}
+use Rattle.ast.specs.Records.{width}
+use Rattle.cursor.specs.declared.Cursor.{Cursor}
+use Rattle.cursor.specs.Onto.{Reached, reached, numberAt, putOut, partOut}
+
+-- ---- number_at
+
+module _ (t : List ℕ) (r k : ℕ) where
+  pub number-in : k < 9 → getD t (r * 9 + k) 0 ≡ numberAt t r k
+  unfolding numberAt width
+  number-in h = rw (lt-leb 9 k h)
+
+  pub number-past : k < 9 → length t ≤ r * 9 + k → 0 ≡ numberAt t r k
+  number-past h l = sym (List·getD-eq-default t 0 l) ∙ number-in h
+
+-- ---- copy
+
+abbrev pub copied : ℕ → List ℕ → List ℕ → List ℕ
+copied i b o = take i b ++ drop i o
+
+pub copy-step : (i : ℕ) (b o out : List ℕ) → length b ≤ length o → i < length b → out ≡ copied i b o → set out i (getD b i 0) ≡ copied (i + 1) b o
+copy-step i b o out h l e =
+    let n : i + 1 ≡ suc i = omega arith in
+    let k : i < length o = omega arith in
+    rw (e, n, take-suc b i 0 l, drop-cons o i 0 k)
+    (set-at (take i b) (getD o i 0) (drop (suc i) o) (getD b i 0) i (length-take-le i b (omega arith))
+    ∙ sym (append-snoc (take i b) (getD b i 0) (drop (suc i) o)))
+
+pub copy-done : (i : ℕ) (b o out : List ℕ) → i ≤ length b → length b ≤ i → out ≡ copied i b o → out ≡ b ++ drop (length b) o
+copy-done i b o out h l e = let n : i ≡ length b = omega arith in e ∙ rw (n, take-all (length b) b (omega arith))
+
+-- ---- put
+
+module _ (b : List ℕ) (p : Cursor) (o : List ℕ) where
+  lent : (v : List ℕ) → v ≡ b ++ drop (length b) (take (length o - p .length) (drop (p .length) o))
+      → putMid (p .length) (length o - p .length) o v ≡ take (p .length) o ++ (b ++ drop (p .length + length b) o)
+  lent v e =
+      let n : length (drop (p .length) o) ≤ length o - p .length = omega (arith, length-drop (p .length) o) in
+      rw (e, take-all (length o - p .length) (drop (p .length) o) n, drop-of-length-le (drop (p .length) o) n, append-nil, drop-drop (length b) (p .length) o)
+
+  pub put-in : (v : List ℕ) → p .length ≤ length o → length b ≤ length o - p .length
+      → v ≡ b ++ drop (length b) (take (length o - p .length) (drop (p .length) o))
+      → reached (record { node = p .node; comment = p .comment; length = p .length + length b }) (putMid (p .length) (length o - p .length) o v) ≡ putOut b p o
+  unfolding putOut
+  put-in v h l e = rw (le-leb (p .length + length b) (length o) (omega arith), lent v e)
+
+  pub put-past : p .length ≤ length o → length o - p .length < length b
+      → reached (record { node = p .node; comment = p .comment; length = length o + 1 }) o ≡ putOut b p o
+  unfolding putOut
+  put-past h l = rw (lt-leb (p .length + length b) (length o) (omega arith))
+
+  pub put-over : length o < p .length → reached (record { node = p .node; comment = p .comment; length = length o + 1 }) o ≡ putOut b p o
+  unfolding putOut
+  put-over h = rw (lt-leb (p .length + length b) (length o) (omega arith))
+
+-- ---- put_part
+
+module _ (text : List ℕ) (a b : ℕ) (p : Cursor) (o : List ℕ) where
+  pub part-past : length text < b → reached p o ≡ partOut text a b p o
+  unfolding partOut
+  part-past h = rw (lt-ltb _ _ h)
+
+  pub part-back : b ≤ length text → b < a → reached p o ≡ partOut text a b p o
+  unfolding partOut
+  part-back h l = rw (le-ltb _ _ h, lt-ltb _ _ l)
+
+  pub part-in : (i : Reached) → b ≤ length text → a ≤ b → i ≡ putOut (take (b - a) (drop a text)) p o → i ≡ partOut text a b p o
+  unfolding partOut
+  part-in i h l e = rw (le-ltb _ _ h, le-ltb _ _ l) e

@@ -1,0 +1,19 @@
+-- `cursor::put_token` meets its contract. Assumes nothing.
+use borrow.Author.Needs.{needs}
+use Rattle.cursor.proofs.Runs.{token-is}
+use Rattle.cursor.proofs.put_token.Statement.{statement}
+use Rattle.cursor.proofs.put_token.Tie as tie
+
+returns : tie.Need-returns
+returns c = token-is _ _ _ _ _ _ _ _ _ (c .before .before .before .before .before .before .number-at .ensures) (c .before .before .before .before .before .number-at2 .ensures) (c .before .before .before .put-part .ensures) (c .pass-node .ensures _)
+
+pub put-token-spec : {M : Type 1} → statement M
+put-token-spec =
+    tie.close
+    (tie.spec
+    (λ c κs. search needs)
+    (λ c κs. search needs)
+    (λ c κs. search needs)
+    (λ c κs. search needs)
+    (λ c. search needs)
+    returns)

@@ -1,0 +1,232 @@
+// Where the printer stands, the records that it prints from, and the output.
+
+ghost use mathlib.Core.Path.{_≡_};
+ghost use mathlib.Core.List.{_++_};
+ghost use Prim.Native.Nat.{_≤_};
+ghost use lib.ListN.{length, drop};
+ghost use Rattle.cursor.specs.Onto.{Writes, Moves, bump, numberAt, kindAt, parentAt, passNode, passComment, putOut, partOut, tokenOut, spacesOut, commentOut, commentsOut, passComments, below, passBelow};
+// The record's width.
+const WIDTH: usize = 9;
+
+// The parent of a definition, and of what lies behind the last record.
+const NO_PARENT: u32 = 4294967295;
+
+// The next node record, the next comment record, and how many bytes were printed; one more than the output holds where they did not fit.
+pub struct Cursor {
+    pub node: u32,
+    pub comment: u32,
+    pub length: usize,
+}
+
+// One more; never past the largest number.
+pub fn bump(n: u32) -> u32
+    ensures { λ r. ⌜ r ≡ bump n ⌝ }
+{
+    if n < 4294967295 { n + 1 } else { n }
+}
+
+// A number of a record; 0 where the table does not hold it.
+pub fn number_at(table: &[u32], row: u32, k: usize) -> u32
+    ensures { λ r. ⌜ r ≡ numberAt (now (table .entry)) row k ⌝ }
+{
+    if 9 <= k {
+        return 0;
+    }
+    let at = row as usize * WIDTH + k;
+    if at < table.len() { table[at] } else { 0 }
+}
+
+// The kind of a node record; 0 behind the last one.
+pub fn kind_at(nodes: &[u32], count: u32, row: u32) -> u32
+    ensures { λ r. ⌜ r ≡ kindAt (now (nodes .entry)) count row ⌝ }
+{
+    if row < count {
+        number_at(nodes, row, 0)
+    } else {
+        0
+    }
+}
+
+// The parent of a record.
+pub fn parent_at(table: &[u32], count: u32, row: u32) -> u32
+    ensures { λ r. ⌜ r ≡ parentAt (now (table .entry)) count row ⌝ }
+{
+    if row < count {
+        number_at(table, row, 1)
+    } else {
+        NO_PARENT
+    }
+}
+
+// Past a node record.
+pub fn pass_node(at: Cursor) -> Cursor
+    ensures { λ r. ⌜ Moves (passNode) at r ⌝ }
+{
+    Cursor {
+        node: bump(at.node),
+        comment: at.comment,
+        length: at.length,
+    }
+}
+
+// Past a comment record.
+pub fn pass_comment(at: Cursor) -> Cursor
+    ensures { λ r. ⌜ Moves (passComment) at r ⌝ }
+{
+    Cursor {
+        node: at.node,
+        comment: bump(at.comment),
+        length: at.length,
+    }
+}
+
+// Copies bytes to the front of a slice that is as long or longer.
+fn copy(out: &mut [u8], bytes: &[u8])
+    requires { ⌜ length (now bytes) ≤ length (now out) ⌝ }
+    ensures { λ _. ⌜ now (out .exit) ≡ now (bytes .entry) ++ drop (length (now (bytes .entry))) (now (out .entry)) ⌝ }
+{
+    let mut i: usize = 0;
+    while i < bytes.len() {
+        out[i] = bytes[i];
+        i += 1;
+    }
+}
+
+// Prints bytes, if the output holds them behind what was printed.
+pub fn put(out: &mut [u8], at: Cursor, bytes: &[u8]) -> Cursor
+    ensures { λ r. ⌜ Writes (putOut (now (bytes .entry))) at r (now (out .entry)) (now (out .exit)) ⌝ }
+{
+    let room = out.len();
+    let length = at.length;
+    let mut behind = room + 1;
+    if length <= room {
+        if bytes.len() <= room - length {
+            copy(&mut out[length..], bytes);
+            behind = length + bytes.len();
+        }
+    }
+    Cursor {
+        node: at.node,
+        comment: at.comment,
+        length: behind,
+    }
+}
+
+// Prints a part of the text.
+pub fn put_part(text: &[u8], out: &mut [u8], at: Cursor, start: u32, end: u32) -> Cursor
+    ensures { λ r. ⌜ Writes (partOut (now (text .entry)) start end) at r (now (out .entry)) (now (out .exit)) ⌝ }
+{
+    let first = start as usize;
+    let last = end as usize;
+    if text.len() < last {
+        return at;
+    }
+    if last < first {
+        return at;
+    }
+    put(out, at, &text[first..last])
+}
+
+// Prints the bytes of the next node, and passes it.
+pub fn put_token(text: &[u8], nodes: &[u32], out: &mut [u8], at: Cursor) -> Cursor
+    ensures { λ r. ⌜ Writes (tokenOut (now (text .entry)) (now (nodes .entry))) at r (now (out .entry)) (now (out .exit)) ⌝ }
+{
+    let start = number_at(nodes, at.node, 3);
+    let end = number_at(nodes, at.node, 6);
+    let behind = put_part(text, out, at, start, end);
+    pass_node(behind)
+}
+
+// Prints so many spaces.
+pub fn put_spaces(out: &mut [u8], at: Cursor, count: u32) -> Cursor
+    ensures { λ r. ⌜ Writes (spacesOut count) at r (now (out .entry)) (now (out .exit)) ⌝ }
+{
+    let mut now = at;
+    let mut spaces = count;
+    while 0 < spaces {
+        now = put(out, now, b" ");
+        spaces -= 1;
+    }
+    now
+}
+
+// The comment ahead, on a line of its own behind the indent.
+fn put_comment(text: &[u8], comments: &[u32], out: &mut [u8], at: Cursor, indent: u32) -> Cursor
+    ensures { λ r. ⌜ Writes (commentOut (now (text .entry)) (now (comments .entry)) indent) at r (now (out .entry)) (now (out .exit)) ⌝ }
+{
+    let start = number_at(comments, at.comment, 3);
+    let end = number_at(comments, at.comment, 6);
+    let spaced = put_spaces(out, at, indent);
+    let noted = put_part(text, out, spaced, start, end);
+    let ended = put(out, noted, b"\n");
+    pass_comment(ended)
+}
+
+// write_comments: those of a node.
+pub fn put_comments(
+    text: &[u8],
+    comments: &[u32],
+    total: u32,
+    out: &mut [u8],
+    at: Cursor,
+    owner: u32,
+    indent: u32,
+) -> Cursor
+    ensures { λ r. ⌜ Writes (commentsOut (now (text .entry)) (now (comments .entry)) total owner indent) at r (now (out .entry)) (now (out .exit)) ⌝ }
+{
+    let mut now = at;
+    let mut left = total;
+    while 0 < left {
+        if parent_at(comments, total, now.comment) != owner {
+            return now;
+        }
+        now = put_comment(text, comments, out, now, indent);
+        left -= 1;
+    }
+    now
+}
+
+// Past the comments of a node.
+pub fn pass_comments(comments: &[u32], total: u32, at: Cursor, owner: u32) -> Cursor
+    ensures { λ r. ⌜ Moves (passComments (now (comments .entry)) total owner) at r ⌝ }
+{
+    let mut now = at;
+    let mut left = total;
+    while 0 < left {
+        if parent_at(comments, total, now.comment) != owner {
+            return now;
+        }
+        now = pass_comment(now);
+        left -= 1;
+    }
+    now
+}
+
+// Whether a node with this parent stands below the owner, or follows it there.
+fn is_below(owner: u32, parent: u32) -> bool
+    ensures { λ r. ⌜ r ≡ below owner parent ⌝ }
+{
+    if parent < owner {
+        return false;
+    }
+    if parent == NO_PARENT {
+        return false;
+    }
+    true
+}
+
+// Past all that stands below a node.
+pub fn pass_below(nodes: &[u32], count: u32, at: Cursor, owner: u32) -> Cursor
+    ensures { λ r. ⌜ Moves (passBelow (now (nodes .entry)) count owner) at r ⌝ }
+{
+    let mut now = at;
+    let mut left = count;
+    while 0 < left {
+        if !is_below(owner, parent_at(nodes, count, now.node)) {
+            return now;
+        }
+        now = pass_node(now);
+        left -= 1;
+    }
+    now
+}
