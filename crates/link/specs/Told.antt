@@ -4,6 +4,7 @@ use mathlib.Core.List.{List, [], _∷_, _++_}
 use Prim.Native.Nat.{ℕ}
 use lib.Dec.{ltb}
 use lib.ListN.{length, drop}
+use Rattle.lexer.specs.declared.location.Span.{Span}
 use Rattle.writer.specs.declared.Printed.{Printed}
 use Rattle.writer.specs.declared.Printed.the-variants.{Accepted, Refused}
 
@@ -15,3 +16,7 @@ atFront k ns a = cond (ltb (length a) k) a (ns ++ drop k a)
 unfoldable pub four : Printed → List ℕ
 four (Accepted n c b) = 0 ∷ n ∷ c ∷ b ∷ []
 four (Refused e p n) = e ∷ p ∷ n ∷ 0 ∷ []
+
+-- the three numbers of a place
+unfoldable pub three : Span → List ℕ
+three s = s .line ∷ s .column ∷ s .index ∷ []

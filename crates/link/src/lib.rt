@@ -5,7 +5,8 @@ ghost use lib.ListN.{getD};
 ghost use Rattle.lexer.specs.Check.{checked, refusal};
 ghost use Rattle.parser.specs.Read.{numbers, reading};
 ghost use Rattle.writer.specs.Write.{printing};
-ghost use Rattle.link.specs.Told.{atFront, four};
+ghost use Rattle.place.specs.Place.{placeOf};
+ghost use Rattle.link.specs.Told.{atFront, four, three};
 use lexer::Checked;
 use parser::Answer;
 use writer::Printed;
@@ -62,6 +63,15 @@ pub extern "C" fn hirvelan_read(
             put_numbers(answer, number, place, length);
         }
     }
+}
+
+// Where an offset of a text stands, any offset of any text. The place's three numbers: line and column, from 1, and the offset, held to the text's end and to 65,536.
+#[no_mangle]
+pub extern "C" fn hirvelan_place(text: &[u8], offset: u32, place: &mut [u32])
+    ensures { λ _. ⌜ now (place .exit) ≡ atFront 3 (three (placeOf (now (text .entry)) offset)) (now (place .entry)) ⌝ }
+{
+    let found = place::find(text, offset);
+    put_numbers(place, found.line, found.column, found.index);
 }
 
 // Puts four numbers at the front of a slice that holds them.

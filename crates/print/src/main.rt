@@ -1,6 +1,5 @@
 // Prints the text on standard input, at the indent that the argument gives, 2 if there is none; a refusal is a line on standard error.
 // There is no exit status in Rattle: what is on standard error tells that nothing was printed, or not all.
-mod place;
 mod refusal;
 
 use libc::STDERR_FILENO;

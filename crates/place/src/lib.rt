@@ -10,7 +10,10 @@ ghost use mathlib.Core.Path.{_≡_};
 ghost use Prim.Native.Nat.{_+_, _<_, _≤_};
 ghost use lib.ListN.{length};
 ghost use Rattle.token.specs.Tables.{classes, trie as nodes};
-ghost use Rattle.lexer.specs.Location.{Placed};
+ghost use Rattle.token.specs.Scan.{scan};
+ghost use Rattle.token.specs.declared.Token.the-variants as T;
+ghost use Rattle.lexer.specs.Location.{Placed, spanOf, opening};
+ghost use Rattle.place.specs.Place.{kindOf, lengthOf, walk, least, placeOf, step};
 
 // The longest text that has lines.
 const LIMIT: usize = 65536;
@@ -21,31 +24,34 @@ struct Piece {
     length: usize,
 }
 
+fn least(a: usize, b: usize) -> usize
+    ensures { λ r. ⌜ r ≡ least a b ⌝ }
+{
+    if a < b { a } else { b }
+}
+
 // What a text starts with, at most so many bytes; a byte that starts no token ends no line.
 fn first(class: &[u8; 256], trie: &[u8; 512], text: &[u8], most: usize) -> Piece
-    requires { ⌜ (now class ≡ classes) × (now trie ≡ nodes) × (0 < most) ⌝ }
-    ensures { λ r. ⌜ (0 < r .length) × (r .length ≤ most) ⌝ }
+    requires { ⌜ (now class ≡ classes) × (now trie ≡ nodes) ⌝ }
+    ensures { λ r. ⌜ (r .token ≡ kindOf (scan (now (text .entry)))) × (r .length ≡ least (lengthOf (scan (now (text .entry)))) most) ⌝ }
 {
     let found = scan::scan_token(class, trie, text);
-    let Scan::Hit(token, length) = found else {
+    let Scan::Hit(token, n) = found else {
         return Piece {
             token: Token::Blank,
-            length: 1,
+            length: least(1, most),
         };
     };
-    if most < length {
-        return Piece {
-            token,
-            length: most,
-        };
+    Piece {
+        token,
+        length: least(n, most),
     }
-    Piece { token, length }
 }
 
 // The lexer behind the first token of the text that lies ahead, passing at most so many bytes.
 fn pass_first(class: &[u8; 256], trie: &[u8; 512], text: &[u8], most: usize, from: Lexer) -> Lexer
     requires { ⌜ (now class ≡ classes) × (now trie ≡ nodes) × (0 < most) × (most ≤ length (now text)) × Placed from × (from .at + most ≤ 65536) ⌝ }
-    ensures { λ r. ⌜ Placed r × (from .at < r .at) × (r .at ≤ from .at + most) ⌝ }
+    ensures { λ r. ⌜ r ≡ step (now (text .entry)) most from ⌝ }
 {
     let piece = first(class, trie, text, most);
     let token = piece.token;
@@ -56,6 +62,7 @@ fn pass_first(class: &[u8; 256], trie: &[u8; 512], text: &[u8], most: usize, fro
 // The place at an offset, which may lie in a token.
 fn reached(class: &[u8; 256], trie: &[u8; 512], text: &[u8], place: usize) -> Span
     requires { ⌜ (now class ≡ classes) × (now trie ≡ nodes) × (place ≤ length (now text)) × (place ≤ 65536) ⌝ }
+    ensures { λ r. ⌜ r ≡ spanOf (walk (now (text .entry)) T.Blank 0 place opening) ⌝ }
 {
     let mut from = Lexer::new();
     loop {
@@ -67,14 +74,10 @@ fn reached(class: &[u8; 256], trie: &[u8; 512], text: &[u8], place: usize) -> Sp
     }
 }
 
-fn least(a: usize, b: usize) -> usize
-    ensures { λ r. ⌜ (r ≤ a) × (r ≤ b) ⌝ }
+// The place at an offset of the text, which may be any.
+pub fn find(text: &[u8], offset: u32) -> Span
+    ensures { λ r. ⌜ r ≡ placeOf (now (text .entry)) offset ⌝ }
 {
-    if a < b { a } else { b }
-}
-
-// The place at an offset of the text.
-pub fn find(text: &[u8], offset: u32) -> Span {
     let class = table::CLASS;
     let trie = table::WORDS;
     let end = least(text.len(), LIMIT);
