@@ -1,0 +1,123 @@
+//! Demand 3: lists of readings and printings at one indent, on one file.
+
+use crate::random::Rng;
+use crate::sides::{fault, wanted, Fault, Port, Source, Wanted, INDENTS, LONGEST};
+
+/// Does each field, parameter and thrown field begin with an integer token? Its first child is an id then.
+pub fn numbered(nodes: &[u32]) -> bool {
+    let records: Vec<&[u32]> = nodes.chunks(9).collect();
+    (0..records.len()).all(|at| records[at][0] != 12 || records.get(at + 1).is_some_and(|child| child[0] == 17))
+}
+
+/// What counts when definitions agree: the tree, kinds, flags, the bytes of some kinds and of the comments, after the drop in parameters.
+pub fn shape(text: &[u8], nodes: &[u32], comments: &[u32]) -> Vec<u8> {
+    let records: Vec<&[u32]> = nodes.chunks(9).collect();
+    let bytes = |record: &[u32]| &text[record[3] as usize..record[6] as usize];
+    let mut notes: Vec<Vec<&[u8]>> = vec![Vec::new(); records.len()];
+    for comment in comments.chunks(9) {
+        notes[comment[1] as usize].push(bytes(comment));
+    }
+    let parameter = |at: usize| records[at][0] == 12 && records[records[at][1] as usize][0] == 11;
+    let (mut depths, mut dropped) = (Vec::with_capacity(records.len()), Vec::with_capacity(records.len()));
+    let mut out = Vec::new();
+    let put = |out: &mut Vec<u8>, part: &[u8]| {
+        out.extend_from_slice(&(part.len() as u32).to_le_bytes());
+        out.extend_from_slice(part);
+    };
+    for (at, record) in records.iter().enumerate() {
+        let parent = record[1] as usize;
+        let top = record[1] == u32::MAX;
+        depths.push(if top { 0 } else { depths[parent] + 1 });
+        dropped.push(!top && (dropped[parent] || record[0] == 14 && parameter(parent)));
+        if dropped[at] {
+            continue;
+        }
+        let flags = if parameter(at) { record[2] & !3 } else { record[2] };
+        for number in [depths[at], record[0], flags] {
+            out.extend_from_slice(&number.to_le_bytes());
+        }
+        put(&mut out, if matches!(record[0], 16..=19 | 23..=28) { bytes(record) } else { &[] });
+        let own: &[&[u8]] = if parameter(at) { &[] } else { &notes[at] };
+        out.extend_from_slice(&(own.len() as u32).to_le_bytes());
+        for note in own {
+            put(&mut out, note);
+        }
+    }
+    out
+}
+
+/// A length around what is needed.
+fn size(rng: &mut Rng, need: usize, unit: usize) -> usize {
+    match rng.below(10) {
+        0 => 0,
+        1 => rng.below(need + 1),
+        2 => need.saturating_sub(1),
+        3 => need.saturating_sub(unit),
+        4..=6 => need,
+        7 | 8 => need + rng.below(3 * unit),
+        _ => need + rng.below(40 * unit),
+    }
+}
+
+fn compared(wanted: &Wanted) -> bool {
+    matches!(wanted.source, Source::Rico | Source::CutOtherwise)
+}
+
+/// One list of calls. None: the text is outside the claim's premise. Else the number of accepted printings.
+pub fn list(port: &mut Port, text: &[u8], indent: usize, length: usize, rng: &mut Rng) -> Result<Option<usize>, Fault> {
+    let first = wanted(text, Some(indent));
+    if !compared(&first) || first.refusal.is_some() || !numbered(&first.nodes) || first.prints[indent].len() > LONGEST {
+        return Ok(None);
+    }
+    let print = first.prints[indent].clone();
+    let second = wanted(&print, Some(indent));
+    if !compared(&second) {
+        return Ok(None);
+    }
+    if second.refusal.is_some() || second.prints[indent] != print {
+        return Err(fault("demand 3: rico's print is refused or prints otherwise", format!("indent {indent}: {:?}", second.refusal)));
+    }
+    if shape(text, &first.nodes, &first.comments) != shape(&print, &second.nodes, &second.comments) {
+        return Err(fault("demand 3: the print's definitions do not agree", format!("indent {indent}")));
+    }
+    let mut file = text.to_vec();
+    let mut printings = 0;
+    for _ in 0..length {
+        let (now, stands): (&Wanted, &[u8]) = if printings > 0 { (&second, &print) } else { (&first, text) };
+        let (nodes, comments) = (size(rng, now.nodes.len(), 9), size(rng, now.comments.len(), 9));
+        if rng.percent(45) {
+            port.read(&file, now, nodes, comments, rng)?;
+        } else {
+            let out = size(rng, print.len(), 1);
+            if port.print(&file, now, indent as u32, nodes, comments, out, rng)? {
+                printings += 1;
+                file = port.out.part()[..print.len()].to_vec();
+            }
+        }
+        let stands = if printings > 0 { &print } else { stands };
+        if file != stands {
+            return Err(fault("demand 3: the file is altered", format!("indent {indent}")));
+        }
+    }
+    Ok(Some(printings))
+}
+
+/// Two texts that are made to agree: their definitions do, and both are printed alike. False if one is not accepted.
+pub fn pair(port: &mut Port, one: &[u8], other: &[u8], rng: &mut Rng) -> Result<bool, Fault> {
+    let (a, b) = (wanted(one, None), wanted(other, None));
+    if !compared(&a) || !compared(&b) || a.refusal.is_some() || b.refusal.is_some() {
+        return Ok(false);
+    }
+    if shape(one, &a.nodes, &a.comments) != shape(other, &b.nodes, &b.comments) {
+        return Err(fault("demand 3: texts made to agree do not", format!("the other is \"{}\"", other.escape_ascii())));
+    }
+    for indent in 0..INDENTS {
+        port.print(one, &a, indent as u32, a.nodes.len(), a.comments.len(), a.prints[indent].len(), rng)?;
+        let print = port.out.part().to_vec();
+        port.print(other, &b, indent as u32, b.nodes.len(), b.comments.len(), b.prints[indent].len(), rng)?;
+        if print != port.out.part() {
+            return Err(fault("demand 3: agreeing texts print otherwise", format!("indent {indent}, the other is \"{}\"", other.escape_ascii())));
+        }
+    }
+    Ok(true)
+}

@@ -1,0 +1,355 @@
+//! Both sides: document 01's answer for a text, from rico, and the port's calls with all that they are lent.
+
+use crate::random::Rng;
+use oracle::flatten::Record;
+use oracle::judge::{judge, Answer};
+use oracle::tokens::cut;
+use rico::lexer::Token;
+use rico::Writer;
+
+pub const LONGEST: usize = 65_536;
+pub const INDENTS: usize = 9;
+
+#[derive(Clone, Copy, PartialEq, Eq, Debug)]
+pub enum Source {
+    /// rico's own answer.
+    Rico,
+    /// rico panics at an enum member's `=`, the last token: the end rule in its place.
+    Panics,
+    /// rico panics elsewhere; the end rule all the same.
+    PanicsElsewhere,
+    /// rico cuts a keyword before a lone dot as an identifier: its answer for the text with a space put in there, the places moved back.
+    CutOtherwise,
+    /// rico cuts a keyword as an identifier where no lone dot follows.
+    CutElsewhere,
+    /// 23 could not be judged, or the space makes the text too long.
+    NotJudged,
+}
+
+/// What document 01 says of a text, tables and output being large enough.
+pub struct Wanted {
+    pub source: Source,
+    pub refusal: Option<[u32; 3]>,
+    pub nodes: Vec<u32>,
+    pub comments: Vec<u32>,
+    /// By indent; empty where not asked for.
+    pub prints: Vec<Vec<u8>>,
+}
+
+const KEYWORDS: &[&str] = &[
+    "namespace", "cpp_include", "include", "typedef", "const", "enum", "struct", "union", "exception", "service", "extends", "throws", "required",
+    "optional", "void", "bool", "byte", "i8", "i16", "i32", "i64", "double", "string", "binary", "map", "list", "set", "true", "false", "oneway",
+];
+
+/// The ends of the keywords that rico cuts as identifiers, and whether a lone dot follows each.
+fn cut_otherwise(text: &[u8]) -> (Vec<usize>, bool) {
+    let lone = |at: usize| text.get(at) == Some(&b'.') && !text.get(at + 1).is_some_and(|b| b.is_ascii_alphabetic() || *b == b'_');
+    let dotted = (1..text.len()).any(|at| text[at - 1].is_ascii_alphanumeric() && lone(at));
+    let mut ends = Vec::new();
+    if !dotted || text.len() > LONGEST {
+        return (ends, true);
+    }
+    if let Ok(text) = std::str::from_utf8(text) {
+        for token in &cut(text).tokens {
+            if token.token == Token::Identifier && KEYWORDS.contains(&token.text) {
+                ends.push(token.span.end);
+            }
+        }
+    }
+    let documented = ends.iter().all(|at| lone(*at));
+    (ends, documented)
+}
+
+fn flat(records: &[Record]) -> Vec<u32> {
+    records.iter().flatten().copied().collect()
+}
+
+/// Rico's answer for a text. `only`: the one indent that is asked for, or all.
+pub fn wanted(text: &[u8], only: Option<usize>) -> Wanted {
+    let (ends, documented) = cut_otherwise(text);
+    if ends.is_empty() {
+        return judged(text, only);
+    }
+    let mut spaced = Vec::with_capacity(text.len() + ends.len());
+    let mut from = 0;
+    for end in &ends {
+        spaced.extend_from_slice(&text[from..*end]);
+        spaced.push(b' ');
+        from = *end;
+    }
+    spaced.extend_from_slice(&text[from..]);
+    let mut wanted = judged(&spaced, only);
+    if wanted.source != Source::Rico && wanted.source != Source::Panics || spaced.len() > LONGEST {
+        wanted.source = Source::NotJudged;
+        return wanted;
+    }
+    wanted.source = if documented { Source::CutOtherwise } else { Source::CutElsewhere };
+    // the space before which this place lay, if any, is one of those put in
+    let back = |at: u32| at - ends.iter().enumerate().filter(|(k, end)| *end + k < at as usize).count() as u32;
+    if let Some(refusal) = &mut wanted.refusal {
+        refusal[1] = back(refusal[1]);
+    }
+    for record in wanted.nodes.chunks_mut(9).chain(wanted.comments.chunks_mut(9)) {
+        for place in [3, 6] {
+            let line_start = record[place] + 1 - record[place + 2];
+            record[place] = back(record[place]);
+            record[place + 2] = record[place] + 1 - back(line_start);
+        }
+    }
+    wanted
+}
+
+fn judged(text: &[u8], only: Option<usize>) -> Wanted {
+    let refused = |source, (number, place, length): (u32, usize, usize)| Wanted {
+        source,
+        refusal: Some([number, place as u32, length as u32]),
+        nodes: Vec::new(),
+        comments: Vec::new(),
+        prints: Vec::new(),
+    };
+    match judge(text) {
+        Answer::Refused(refusal) => refused(Source::Rico, refusal),
+        Answer::Panic(refusal) => {
+            let assigned = &text[refusal.1..refusal.1 + refusal.2] == b"=";
+            refused(if assigned { Source::Panics } else { Source::PanicsElsewhere }, refusal)
+        }
+        Answer::NotJudged => refused(Source::NotJudged, (0, 0, 0)),
+        Answer::Accepted(document, tables) => Wanted {
+            source: Source::Rico,
+            refusal: None,
+            nodes: flat(&tables.nodes),
+            comments: flat(&tables.comments),
+            prints: (0..INDENTS)
+                .map(|indent| match only {
+                    Some(one) if one != indent => Vec::new(),
+                    _ => Writer::new(indent).write(&document).into_bytes(),
+                })
+                .collect(),
+        },
+    }
+}
+
+impl Wanted {
+    /// The answer of a reading with tables of these lengths, and what begins each table; the rest is 0.
+    pub fn reading(&self, nodes: usize, comments: usize) -> ([u32; 3], &[u32], &[u32]) {
+        if let Some(refusal) = self.refusal {
+            (refusal, &[], &[])
+        } else if self.nodes.len() / 9 > nodes / 9 {
+            ([24, 0, 0], &[], &[])
+        } else if self.comments.len() / 9 > comments / 9 {
+            ([25, 0, 0], &[], &[])
+        } else {
+            ([0, (self.nodes.len() / 9) as u32, (self.comments.len() / 9) as u32], &self.nodes, &self.comments)
+        }
+    }
+
+    /// The same of a printing.
+    pub fn printing(&self, indent: u32, nodes: usize, comments: usize, out: usize) -> ([u64; 4], &[u32], &[u32], &[u8]) {
+        let refused = |number: u32| ([number as u64, 0, 0, 0], &[][..], &[][..], &[][..]);
+        if self.refusal.is_some_and(|r| r[0] == 20) {
+            return refused(20);
+        }
+        if indent as usize >= INDENTS {
+            return refused(26);
+        }
+        let ([number, a, b], node_rows, comment_rows) = self.reading(nodes, comments);
+        if number != 0 {
+            return ([number as u64, a as u64, b as u64, 0], &[], &[], &[]);
+        }
+        let print = &self.prints[indent as usize];
+        if print.len() > out {
+            return refused(27);
+        }
+        ([0, a as u64, b as u64, print.len() as u64], node_rows, comment_rows, print)
+    }
+}
+
+extern "C" {
+    fn hirvelan_check(text: *const u8, length: usize) -> u32;
+    fn hirvelan_read(text: *const u8, length: usize, nodes: *mut u32, nodes_length: usize, comments: *mut u32, comments_length: usize, answer: *mut u32, answer_length: usize);
+    fn hirvelan_print(text: *const u8, length: usize, indent: u32, nodes: *mut u32, nodes_length: usize, comments: *mut u32, comments_length: usize, out: *mut u8, out_length: usize, answer: *mut u64, answer_length: usize);
+}
+
+pub trait Cell: Copy + PartialEq + std::fmt::Display {
+    const ZERO: Self;
+    /// Never 0.
+    fn pattern(seed: u32, at: usize) -> Self;
+}
+
+impl Cell for u8 {
+    const ZERO: u8 = 0;
+    fn pattern(seed: u32, at: usize) -> u8 {
+        (seed as u8).wrapping_add(at as u8) | 1
+    }
+}
+
+impl Cell for u32 {
+    const ZERO: u32 = 0;
+    fn pattern(seed: u32, at: usize) -> u32 {
+        seed.wrapping_add(at as u32) | 1
+    }
+}
+
+impl Cell for u64 {
+    const ZERO: u64 = 0;
+    fn pattern(seed: u32, at: usize) -> u64 {
+        (seed as u64).wrapping_add(at as u64) << 20 | 1
+    }
+}
+
+/// Cells on both sides of what is lent, which must stay as they were.
+const GUARD: usize = 10;
+
+/// A slice that is lent, full of a pattern.
+pub struct Lent<T> {
+    cells: Vec<T>,
+    length: usize,
+    seed: u32,
+}
+
+impl<T: Cell> Lent<T> {
+    fn new() -> Self {
+        Lent { cells: Vec::new(), length: 0, seed: 0 }
+    }
+
+    fn lend(&mut self, length: usize, seed: u32) -> *mut T {
+        let whole = length + 2 * GUARD;
+        if self.cells.len() < whole {
+            self.cells.resize(whole, T::ZERO);
+        }
+        for (at, cell) in self.cells[..whole].iter_mut().enumerate() {
+            *cell = T::pattern(seed, at);
+        }
+        (self.length, self.seed) = (length, seed);
+        self.cells[GUARD..].as_mut_ptr()
+    }
+
+    pub fn part(&self) -> &[T] {
+        &self.cells[GUARD..GUARD + self.length]
+    }
+
+    /// The first cell that is not as wanted: `front`, then zeros.
+    fn differs(&self, front: &[T]) -> Option<String> {
+        let part = self.part();
+        if part[..front.len()] != *front || part[front.len()..].iter().any(|cell| *cell != T::ZERO) {
+            let at = (0..part.len()).find(|at| part[*at] != front.get(*at).copied().unwrap_or(T::ZERO))?;
+            return Some(format!("[{at}] of {}: {} wanted, {} given", part.len(), front.get(at).copied().unwrap_or(T::ZERO), part[at]));
+        }
+        self.guards()
+    }
+
+    /// As `differs`, but the rest is as it was lent.
+    fn differs_kept(&self, front: &[T]) -> Option<String> {
+        let part = self.part();
+        for (at, cell) in part.iter().enumerate() {
+            let wanted = front.get(at).copied().unwrap_or(T::pattern(self.seed, GUARD + at));
+            if *cell != wanted {
+                return Some(format!("[{at}] of {}: {wanted} wanted, {cell} given", part.len()));
+            }
+        }
+        self.guards()
+    }
+
+    fn guards(&self) -> Option<String> {
+        let whole = self.length + 2 * GUARD;
+        let at = (0..GUARD).chain(self.length + GUARD..whole).find(|at| self.cells[*at] != T::pattern(self.seed, *at))?;
+        Some(format!(": a cell outside the slice, at {}", at as isize - GUARD as isize))
+    }
+}
+
+/// A difference: what kind it is of, and both answers.
+#[derive(Clone)]
+pub struct Fault {
+    pub kind: String,
+    pub said: String,
+}
+
+pub fn fault(kind: &str, said: String) -> Fault {
+    Fault { kind: kind.to_string(), said }
+}
+
+/// The port, with what its calls are lent.
+pub struct Port {
+    pub nodes: Lent<u32>,
+    pub comments: Lent<u32>,
+    pub out: Lent<u8>,
+    answer: Lent<u32>,
+    printed: Lent<u64>,
+    pub calls: u64,
+    /// Readings and printings by the number wanted; 0: accepted.
+    pub answers: [u64; 28],
+}
+
+impl Port {
+    pub fn new() -> Self {
+        Port { nodes: Lent::new(), comments: Lent::new(), out: Lent::new(), answer: Lent::new(), printed: Lent::new(), calls: 0, answers: [0; 28] }
+    }
+
+    pub fn check(&mut self, text: &[u8], wanted: &Wanted) -> Result<(), Fault> {
+        self.calls += 1;
+        let number = match wanted.refusal {
+            Some([number @ 20..=22, ..]) => number,
+            _ => 0,
+        };
+        let given = unsafe { hirvelan_check(text.as_ptr(), text.len()) };
+        if given != number {
+            return Err(fault(&format!("check: {number} wanted, {given} given"), String::new()));
+        }
+        Ok(())
+    }
+
+    /// One reading; true if it is accepted. Mostly the answer's slice is as long as the answer.
+    pub fn read(&mut self, text: &[u8], wanted: &Wanted, nodes: usize, comments: usize, rng: &mut Rng) -> Result<bool, Fault> {
+        self.calls += 1;
+        let (answer, node_rows, comment_rows) = wanted.reading(nodes, comments);
+        self.answers[answer[0] as usize] += 1;
+        let room = if rng.percent(97) { 3 } else { rng.below(6) };
+        let seed = rng.next() as u32;
+        let (n, c, a) = (self.nodes.lend(nodes, seed), self.comments.lend(comments, !seed), self.answer.lend(room, seed));
+        unsafe { hirvelan_read(text.as_ptr(), text.len(), n, nodes, c, comments, a, room) };
+        let front: &[u32] = if room < 3 { &[] } else { &answer };
+        let parts = [
+            ("answer", self.answer.differs_kept(front)),
+            ("nodes", self.nodes.differs(node_rows)),
+            ("comments", self.comments.differs(comment_rows)),
+        ];
+        for (part, differs) in parts {
+            if let Some(first) = differs {
+                let given = self.answer.part();
+                return Err(Fault {
+                    kind: format!("read, {part}: {} wanted, {} given", answer[0], given.first().unwrap_or(&0)),
+                    said: format!("tables of {nodes} and {comments}: wanted {answer:?}, given {given:?}; {part}{first}"),
+                });
+            }
+        }
+        Ok(answer[0] == 0)
+    }
+
+    /// One printing; true if it is accepted.
+    pub fn print(&mut self, text: &[u8], wanted: &Wanted, indent: u32, nodes: usize, comments: usize, out: usize, rng: &mut Rng) -> Result<bool, Fault> {
+        self.calls += 1;
+        let (answer, node_rows, comment_rows, print) = wanted.printing(indent, nodes, comments, out);
+        self.answers[answer[0] as usize] += 1;
+        let room = if rng.percent(97) { 4 } else { rng.below(7) };
+        let seed = rng.next() as u32;
+        let (n, c, o, a) = (self.nodes.lend(nodes, seed), self.comments.lend(comments, !seed), self.out.lend(out, seed >> 7), self.printed.lend(room, seed));
+        unsafe { hirvelan_print(text.as_ptr(), text.len(), indent, n, nodes, c, comments, o, out, a, room) };
+        let front: &[u64] = if room < 4 { &[] } else { &answer };
+        let parts = [
+            ("answer", self.printed.differs_kept(front)),
+            ("nodes", self.nodes.differs(node_rows)),
+            ("comments", self.comments.differs(comment_rows)),
+            ("output", self.out.differs(print)),
+        ];
+        for (part, differs) in parts {
+            if let Some(first) = differs {
+                let given = self.printed.part();
+                return Err(Fault {
+                    kind: format!("print, {part}: {} wanted, {} given", answer[0], given.first().unwrap_or(&0)),
+                    said: format!("indent {indent}, tables of {nodes} and {comments}, output of {out}: wanted {answer:?}, given {given:?}; {part}{first}"),
+                });
+            }
+        }
+        Ok(answer[0] == 0)
+    }
+}
