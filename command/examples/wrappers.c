@@ -1,0 +1,52 @@
+/* What the wrappers test: null, zero lengths, alignment, overlap. Says which fails. */
+#include "hirvelan.h"
+#include <stdio.h>
+#include <string.h>
+
+static int failed;
+
+static void expect(int holds, const char *what) {
+    if (!holds) {
+        printf("fails: %s\n", what);
+        failed = 1;
+    }
+}
+
+int main(void) {
+    static const char source[] = "struct A{1:required i32 a=5;}";
+    const uint8_t *text = (const uint8_t *)source;
+    size_t n = sizeof source - 1;
+    uint32_t nodes[HIRVELAN_NODES(29)], comments[HIRVELAN_COMMENTS(29)], number = 7;
+    uint32_t shared[HIRVELAN_NODES(29)];
+    uint8_t out[64];
+    hirvelan_answer answer;
+    hirvelan_spot spot;
+
+    expect(hirvelan_check_safe(NULL, 0, &number) == HIRVELAN_OK && number == 0, "check of null and 0 is an empty text");
+    expect(hirvelan_check_safe(NULL, 1, &number) == HIRVELAN_NULL, "check of null and 1");
+    expect(hirvelan_check_safe(text, n, NULL) == HIRVELAN_NULL, "check without a place for the answer");
+
+    expect(hirvelan_read_safe(NULL, 0, NULL, 0, NULL, 0, &answer) == HIRVELAN_OK && answer.number == 0 && answer.nodes == 0, "read of nothing");
+    expect(hirvelan_read_safe(text, n, NULL, 0, NULL, 0, &answer) == HIRVELAN_OK && answer.number == 24, "read without tables is 24");
+    expect(hirvelan_read_safe(text, n, NULL, 9, NULL, 0, &answer) == HIRVELAN_NULL, "read with a null table of 9");
+    expect(hirvelan_read_safe(text, n, shared, 200, shared + 100, 200, &answer) == HIRVELAN_OVERLAP, "read with tables that overlap");
+    expect(hirvelan_read_safe(text, n, shared, 100, shared + 100, 200, &answer) == HIRVELAN_OK, "read with tables side by side");
+    expect(hirvelan_read_safe((const uint8_t *)shared, 40, shared, 9, comments, 9, &answer) == HIRVELAN_OVERLAP, "read into its own text");
+    expect(hirvelan_read_safe(text, n, (uint32_t *)(void *)((char *)shared + 1), 9, comments, 9, &answer) == HIRVELAN_UNALIGNED, "read into an odd address");
+    expect(hirvelan_read_safe(text, n, nodes, (size_t)-1, comments, 9, &answer) == HIRVELAN_LENGTH, "read into more than there can be");
+    expect(hirvelan_read_safe(text, n, nodes, HIRVELAN_NODES(n), comments, HIRVELAN_COMMENTS(n), NULL) == HIRVELAN_NULL, "read without a place for the answer");
+    expect(hirvelan_read_safe(text, n, nodes, HIRVELAN_NODES(n), comments, HIRVELAN_COMMENTS(n), &answer) == HIRVELAN_OK && answer.number == 0 && answer.nodes == 7 && nodes[0] == 7, "read");
+
+    expect(hirvelan_print_safe(text, n, 2, nodes, HIRVELAN_NODES(n), comments, HIRVELAN_COMMENTS(n), out, sizeof out, &answer) == HIRVELAN_OK && answer.number == 0 && answer.bytes == 38, "print of 38 bytes");
+    expect(!memcmp(out, "struct A {\n  1: required i32 a = 5,\n}\n", 38), "what it prints");
+    expect(hirvelan_print_safe(text, n, 2, nodes, HIRVELAN_NODES(n), comments, HIRVELAN_COMMENTS(n), out, 37, &answer) == HIRVELAN_OK && answer.number == 27, "print into 37 bytes");
+    expect(hirvelan_print_safe(text, n, 2, nodes, HIRVELAN_NODES(n), comments, HIRVELAN_COMMENTS(n), NULL, 0, &answer) == HIRVELAN_OK && answer.number == 27, "print into nothing");
+    expect(hirvelan_print_safe(text, n, 9, nodes, HIRVELAN_NODES(n), comments, HIRVELAN_COMMENTS(n), out, sizeof out, &answer) == HIRVELAN_OK && answer.number == 26, "print at 9");
+    expect(hirvelan_print_safe(text, n, 2, nodes, HIRVELAN_NODES(n), comments, HIRVELAN_COMMENTS(n), NULL, 64, &answer) == HIRVELAN_NULL, "print into null and 64");
+    expect(hirvelan_print_safe(text, n, 2, nodes, HIRVELAN_NODES(n), comments, HIRVELAN_COMMENTS(n), (uint8_t *)nodes + 8, 8, &answer) == HIRVELAN_OVERLAP, "print into a table");
+
+    expect(hirvelan_place_safe(NULL, 0, 5, &spot) == HIRVELAN_OK && spot.line == 1 && spot.column == 1 && spot.offset == 0, "place in nothing");
+    expect(hirvelan_place_safe(text, n, 9, &spot) == HIRVELAN_OK && spot.line == 1 && spot.column == 10, "place");
+    expect(hirvelan_place_safe(NULL, 5, 5, &spot) == HIRVELAN_NULL && hirvelan_place_safe(text, n, 5, NULL) == HIRVELAN_NULL, "place of null");
+    return failed;
+}

@@ -1,0 +1,157 @@
+//! Reads and prints Thrift definitions. All reading and printing is in the proved library; here are only the calls.
+//!
+//! What its contracts say of answers, tables and output: `crates/link/src/lib.rt`.
+//! They ask nothing of a text, an indent, a table's length or what is in it. What they cannot say, and what each function here sees to:
+//!
+//! - pointers are not null and valid for their lengths: each comes from a slice;
+//! - nothing that is lent for writing overlaps: each table is an allocation of its own, and the text is borrowed for reading only.
+
+mod raw;
+
+/// The longest text that is read; a longer one is refused with 20.
+pub const LONGEST: usize = 65_536;
+
+/// The numbers of a record: kind, parent, flags, then index, line and column of start and of end.
+pub const WIDTH: usize = 9;
+
+/// Proved for each token (`crates/parser/proofs/Paid`): at most two node records and one comment record.
+const NODES_A_BYTE: usize = 2;
+
+/// Where doubling the output ends.
+const LONGEST_PRINT: usize = 1 << 30;
+
+/// Why a text is refused, by document 01's number.
+#[derive(Clone, Copy, Debug, PartialEq, Eq)]
+pub struct Refusal {
+    pub number: u32,
+    /// The byte offset, from 0.
+    pub place: u32,
+    pub length: u32,
+}
+
+/// Where an offset stands: line and column from 1, columns in bytes.
+#[derive(Clone, Copy, Debug, PartialEq, Eq)]
+pub struct Place {
+    pub line: u32,
+    pub column: u32,
+    /// The offset, held to the text's end and to `LONGEST`.
+    pub offset: u32,
+}
+
+/// One record.
+pub type Record = [u32; WIDTH];
+
+/// Both tables of a text that is accepted.
+#[derive(Clone, Debug, PartialEq, Eq)]
+pub struct Reading {
+    pub nodes: Vec<Record>,
+    pub comments: Vec<Record>,
+}
+
+/// Room for the records of every text as long as this one.
+fn tables(text: &[u8]) -> (Vec<u32>, Vec<u32>) {
+    let bytes = text.len().min(LONGEST);
+    (vec![0; NODES_A_BYTE * WIDTH * bytes], vec![0; WIDTH * bytes])
+}
+
+/// The first records of a table.
+fn records(table: &[u32], count: usize) -> Vec<Record> {
+    table.chunks_exact(WIDTH).take(count).map(|row| row.try_into().expect("a row has nine numbers")).collect()
+}
+
+/// The number of a text's refusal before the grammar (20, 21, 22), 0 where there is none. The text's slice is all that is lent.
+pub fn check(text: &[u8]) -> u32 {
+    raw::check(text)
+}
+
+/// Reads a text. The tables are long enough, so 24 and 25 do not occur.
+pub fn read(text: &[u8]) -> Result<Reading, Refusal> {
+    let (mut nodes, mut comments) = tables(text);
+    let [number, a, b] = raw::read(text, &mut nodes, &mut comments);
+    if number != 0 {
+        return Err(Refusal { number, place: a, length: b });
+    }
+    Ok(Reading { nodes: records(&nodes, a as usize), comments: records(&comments, b as usize) })
+}
+
+/// Prints a text's definitions with so many spaces a level, 0 to 8 (26 above). The output is made longer until the print fits, so 27 does not occur.
+pub fn print(text: &[u8], indent: u32) -> Result<Vec<u8>, Refusal> {
+    let (mut nodes, mut comments) = tables(text);
+    let mut room = 8 * text.len().min(LONGEST) + 64;
+    loop {
+        let mut out = vec![0; room];
+        let [number, a, b, bytes] = raw::print(text, indent, &mut nodes, &mut comments, &mut out);
+        if number == 0 {
+            out.truncate(bytes as usize);
+            return Ok(out);
+        }
+        if number != 27 || room >= LONGEST_PRINT {
+            return Err(Refusal { number: number as u32, place: a as u32, length: b as u32 });
+        }
+        room *= 2;
+    }
+}
+
+/// Line and column of an offset by the lexer's rule. Any offset of any text has one.
+pub fn place(text: &[u8], offset: u32) -> Place {
+    let [line, column, offset] = raw::place(text, offset);
+    Place { line, column, offset }
+}
+
+#[cfg(test)]
+mod tests {
+    use super::*;
+
+    #[test]
+    fn the_last_edge() {
+        let text = b"struct A{1:required i32 a=5;}";
+        assert_eq!(print(text, 2).unwrap(), b"struct A {\n  1: required i32 a = 5,\n}\n"[..38].to_vec());
+        assert_eq!(print(text, 9), Err(Refusal { number: 26, place: 0, length: 0 }));
+    }
+
+    #[test]
+    fn records_of_the_listing() {
+        let reading = read(b"struct A{1:i32 a}").unwrap();
+        assert_eq!((reading.nodes.len(), reading.comments.len()), (6, 0));
+        assert_eq!(reading.nodes[0], [7, 4_294_967_295, 0, 0, 1, 1, 17, 1, 18]);
+        assert_eq!(reading.nodes[5], [16, 2, 0, 15, 1, 16, 16, 1, 17]);
+    }
+
+    #[test]
+    fn empty_and_too_long() {
+        assert_eq!(read(b""), Ok(Reading { nodes: vec![], comments: vec![] }));
+        assert_eq!(print(b"", 0), Ok(vec![]));
+        assert_eq!(place(b"", 7), Place { line: 1, column: 1, offset: 0 });
+        let long = vec![b' '; LONGEST + 1];
+        assert_eq!(read(&long), Err(Refusal { number: 20, place: 0, length: 0 }));
+        assert_eq!(print(&long, 2), Err(Refusal { number: 20, place: 0, length: 0 }));
+        assert_eq!(check(&long), 20);
+        assert_eq!(check(&long[1..]), 0);
+    }
+
+    #[test]
+    fn tables_hold_the_densest_texts() {
+        for unit in ["enum E{A,}", "//\n", "const i8 A=[0,0]", "struct A{1:i8 a}", ";"] {
+            let text = unit.repeat(LONGEST / unit.len());
+            let reading = read(text.as_bytes()).expect("accepted");
+            assert!(reading.nodes.len() <= 2 * LONGEST && reading.comments.len() <= LONGEST);
+        }
+    }
+
+    #[test]
+    fn a_long_print_fits() {
+        let text = format!("enum E{{{}}}", "A,".repeat(32_000));
+        let printed = print(text.as_bytes(), 8).expect("accepted");
+        assert_eq!(printed.len(), "enum E {\n}\n".len() + 11 * 32_000);
+    }
+
+    #[test]
+    fn places_by_the_line_rule() {
+        let at = |text: &[u8], offset| { let p = place(text, offset); (p.line, p.column) };
+        assert_eq!(at(b"\r\nenum E{}", 2), (3, 1));
+        assert_eq!(at(b"\x0cenum E{}", 1), (2, 1));
+        assert_eq!(at(b"/*\r\n*/enum E{}", 6), (2, 3));
+        assert_eq!(at(b"const string X='\n'enum E{}", 18), (1, 19));
+        assert_eq!(at(b"@\n@", 2), (2, 1));
+    }
+}

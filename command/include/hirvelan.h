@@ -1,0 +1,161 @@
+/* Hirvelan for C: reads and prints Thrift definitions. Link target/staticlib/liblink.a (`rt staticlib link` makes it); it needs memset and nothing else.
+ *
+ * The functions without `_safe` are the proved library's own. Their contracts (crates/link/src/lib.rt) hold for every text, indent, table length and content:
+ * each call ends, and answer, tables and output are as defined. What no contract can say, the caller has to see to; it stands beside each function.
+ * The `_safe` wrappers below test what can be tested.
+ *
+ * A slice is a pointer and a length. A length counts elements: bytes of a text or an output, numbers of a table or an answer.
+ * A record is nine numbers: kind, parent, flags, then index, line and column of start and of end.
+ */
+#ifndef HIRVELAN_H
+#define HIRVELAN_H
+
+#include <stddef.h>
+#include <stdint.h>
+
+#ifdef __cplusplus
+extern "C" {
+#endif
+
+/* A slice's length has 64 bits. */
+typedef char hirvelan_needs_64_bits[sizeof(size_t) == 8 ? 1 : -1];
+
+/* The longest text that is read; a longer one is 20. */
+#define HIRVELAN_LONGEST 65536u
+
+/* Tables that hold every text of n bytes, n at most HIRVELAN_LONGEST: at most two node records and one comment record for each byte (proved, crates/parser/proofs/Paid). */
+#define HIRVELAN_NODES(n) ((size_t)18 * (size_t)(n))
+#define HIRVELAN_COMMENTS(n) ((size_t)9 * (size_t)(n))
+
+/* The number of the text's refusal before the grammar: 20, 21, 22, or 0.
+ * The caller sees to: `text` is not null, also if the length is 0, and readable for its length. */
+uint32_t hirvelan_check(const uint8_t *text, size_t text_length);
+
+/* Reads a text into both tables. `answer` gets three numbers: 0, nodes, comments; or a refusal's number, place and length. If its length is below 3 it stays as it is.
+ * Tables may have any length: what does not fit is 24 or 25. After a refusal they are zero, else zero behind the last record.
+ * The caller sees to: no pointer is null, also if its length is 0; each is valid for its length and aligned; nodes, comments and answer overlap neither each other nor the text. */
+void hirvelan_read(const uint8_t *text, size_t text_length, uint32_t *nodes, size_t nodes_length, uint32_t *comments, size_t comments_length, uint32_t *answer, size_t answer_length);
+
+/* Prints a text with `indent` spaces a level, 0 to 8. `answer` gets four numbers: 0, nodes, comments, bytes written; or a refusal's number, place and length, and 0. If its length is below 4 it stays as it is.
+ * A print that `out` does not hold is 27; lend more and call again. 8 bytes for each byte of text are enough for ordinary files.
+ * The caller sees to the same as in hirvelan_read, for `out` too. */
+void hirvelan_print(const uint8_t *text, size_t text_length, uint32_t indent, uint32_t *nodes, size_t nodes_length, uint32_t *comments, size_t comments_length, uint8_t *out, size_t out_length, uint64_t *answer, size_t answer_length);
+
+/* Where an offset stands. `place` gets three numbers: line and column from 1, columns in bytes, and the offset, held to the text's end and to 65,536. If its length is below 3 it stays as it is.
+ * The caller sees to: no pointer is null; each is valid for its length; place is aligned and does not overlap the text. */
+void hirvelan_place(const uint8_t *text, size_t text_length, uint32_t offset, uint32_t *place, size_t place_length);
+
+/* ---- wrappers. Null with length 0 is an empty slice. They give HIRVELAN_OK, or say why the library was not called.
+ * What they can't test either: that a pointer is valid for its length. */
+
+enum { HIRVELAN_OK = 0, HIRVELAN_NULL = -1, HIRVELAN_UNALIGNED = -2, HIRVELAN_OVERLAP = -3, HIRVELAN_LENGTH = -4 };
+
+/* number 0: accepted, with counts. Else refused, with place (a byte offset) and length. */
+typedef struct {
+    uint32_t number, nodes, comments, place, length;
+    uint64_t bytes;
+} hirvelan_answer;
+
+typedef struct {
+    uint32_t line, column, offset;
+} hirvelan_spot;
+
+/* What is lent, as bytes. */
+typedef struct {
+    uintptr_t at;
+    size_t bytes;
+} hirvelan_part;
+
+/* One slice: null only if empty, aligned, and its bytes can be counted. */
+static inline int hirvelan_part_of(const void *pointer, size_t length, size_t size, hirvelan_part *part) {
+    part->at = (uintptr_t)pointer;
+    if (!pointer && length) return HIRVELAN_NULL;
+    if (part->at % size) return HIRVELAN_UNALIGNED;
+    if (length > (size_t)PTRDIFF_MAX / size || length * size > UINTPTR_MAX - part->at) return HIRVELAN_LENGTH;
+    part->bytes = length * size;
+    return HIRVELAN_OK;
+}
+
+static inline int hirvelan_apart(const hirvelan_part *parts, int count) {
+    int i, j;
+    for (i = 0; i < count; i++)
+        for (j = i + 1; j < count; j++)
+            if (parts[i].bytes && parts[j].bytes && parts[i].at < parts[j].at + parts[j].bytes && parts[j].at < parts[i].at + parts[i].bytes) return HIRVELAN_OVERLAP;
+    return HIRVELAN_OK;
+}
+
+/* Tests: null. */
+static inline int hirvelan_check_safe(const uint8_t *text, size_t text_length, uint32_t *number) {
+    static const uint8_t none = 0;
+    hirvelan_part part;
+    int fault = hirvelan_part_of(text, text_length, 1, &part);
+    if (!fault && !number) fault = HIRVELAN_NULL;
+    if (!fault) *number = hirvelan_check(text ? text : &none, text_length);
+    return fault;
+}
+
+/* Tests: null, alignment, overlap. The answer is the wrapper's own, so it overlaps nothing. */
+static inline int hirvelan_read_safe(const uint8_t *text, size_t text_length, uint32_t *nodes, size_t nodes_length, uint32_t *comments, size_t comments_length, hirvelan_answer *answer) {
+    static const uint8_t none = 0;
+    uint32_t empty[2] = {0, 0}, said[3] = {0, 0, 0};
+    hirvelan_part parts[3];
+    int fault = hirvelan_part_of(text, text_length, 1, &parts[0]);
+    if (!fault) fault = hirvelan_part_of(nodes, nodes_length, 4, &parts[1]);
+    if (!fault) fault = hirvelan_part_of(comments, comments_length, 4, &parts[2]);
+    if (!fault) fault = hirvelan_apart(parts, 3);
+    if (!fault && !answer) fault = HIRVELAN_NULL;
+    if (fault) return fault;
+    hirvelan_read(text ? text : &none, text_length, nodes ? nodes : &empty[0], nodes_length, comments ? comments : &empty[1], comments_length, said, 3);
+    answer->number = said[0];
+    answer->nodes = said[0] ? 0 : said[1];
+    answer->comments = said[0] ? 0 : said[2];
+    answer->place = said[0] ? said[1] : 0;
+    answer->length = said[0] ? said[2] : 0;
+    answer->bytes = 0;
+    return HIRVELAN_OK;
+}
+
+/* Tests: null, alignment, overlap. */
+static inline int hirvelan_print_safe(const uint8_t *text, size_t text_length, uint32_t indent, uint32_t *nodes, size_t nodes_length, uint32_t *comments, size_t comments_length, uint8_t *out, size_t out_length, hirvelan_answer *answer) {
+    static const uint8_t none = 0;
+    uint32_t empty[2] = {0, 0};
+    uint8_t nothing = 0;
+    uint64_t said[4] = {0, 0, 0, 0};
+    hirvelan_part parts[4];
+    int fault = hirvelan_part_of(text, text_length, 1, &parts[0]);
+    if (!fault) fault = hirvelan_part_of(nodes, nodes_length, 4, &parts[1]);
+    if (!fault) fault = hirvelan_part_of(comments, comments_length, 4, &parts[2]);
+    if (!fault) fault = hirvelan_part_of(out, out_length, 1, &parts[3]);
+    if (!fault) fault = hirvelan_apart(parts, 4);
+    if (!fault && !answer) fault = HIRVELAN_NULL;
+    if (fault) return fault;
+    hirvelan_print(text ? text : &none, text_length, indent, nodes ? nodes : &empty[0], nodes_length, comments ? comments : &empty[1], comments_length, out ? out : &nothing, out_length, said, 4);
+    answer->number = (uint32_t)said[0];
+    answer->nodes = said[0] ? 0 : (uint32_t)said[1];
+    answer->comments = said[0] ? 0 : (uint32_t)said[2];
+    answer->place = said[0] ? (uint32_t)said[1] : 0;
+    answer->length = said[0] ? (uint32_t)said[2] : 0;
+    answer->bytes = said[3];
+    return HIRVELAN_OK;
+}
+
+/* Tests: null. */
+static inline int hirvelan_place_safe(const uint8_t *text, size_t text_length, uint32_t offset, hirvelan_spot *spot) {
+    static const uint8_t none = 0;
+    uint32_t said[3] = {0, 0, 0};
+    hirvelan_part part;
+    int fault = hirvelan_part_of(text, text_length, 1, &part);
+    if (!fault && !spot) fault = HIRVELAN_NULL;
+    if (fault) return fault;
+    hirvelan_place(text ? text : &none, text_length, offset, said, 3);
+    spot->line = said[0];
+    spot->column = said[1];
+    spot->offset = said[2];
+    return HIRVELAN_OK;
+}
+
+#ifdef __cplusplus
+}
+#endif
+
+#endif
