@@ -4,14 +4,14 @@
 //!        lexer FILE once N     one check of the first N bytes, to count instructions by
 //!        lexer FILE none N     the same set-up without the check
 
+mod timing;
+
 use std::hint::black_box;
-use std::time::Instant;
+use timing::best;
 
 extern "C" {
     fn hirvelan_check(text: *const u8, length: usize) -> u32;
 }
-
-const RUNS: usize = 25;
 
 /// The contract asks nothing of the text.
 fn check(text: &[u8]) -> u32 {
@@ -24,20 +24,6 @@ fn copy(from: &[u8], to: &mut [u8]) {
         // volatile: one byte at a time, as written
         unsafe { std::ptr::write_volatile(to.as_mut_ptr().add(i), from[i]) };
     }
-}
-
-/// MB/s, the best of RUNS runs of about 2 MB each.
-fn best(bytes: usize, mut work: impl FnMut()) -> f64 {
-    let rounds = 1 + 2_000_000 / bytes;
-    let mut best = f64::MAX;
-    for _ in 0..RUNS {
-        let begin = Instant::now();
-        for _ in 0..rounds {
-            work();
-        }
-        best = best.min(begin.elapsed().as_secs_f64() / rounds as f64);
-    }
-    bytes as f64 / best / 1e6
 }
 
 fn main() {

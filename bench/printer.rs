@@ -4,15 +4,16 @@
 //!        printer FILE once N     one printing of the first N bytes, to count instructions by
 //!        printer FILE none N     the same set-up without the printing
 
+mod timing;
+
 use std::hint::black_box;
-use std::time::Instant;
+use timing::{best, RUNS};
 
 extern "C" {
     fn hirvelan_read(text: *const u8, length: usize, nodes: *mut u32, nodes_length: usize, comments: *mut u32, comments_length: usize, answer: *mut u32, answer_length: usize);
     fn hirvelan_print(text: *const u8, length: usize, indent: u32, nodes: *mut u32, nodes_length: usize, comments: *mut u32, comments_length: usize, out: *mut u8, out_length: usize, answer: *mut u64, answer_length: usize);
 }
 
-const RUNS: usize = 25;
 const INDENT: u32 = 2;
 
 /// The contracts ask nothing of the text, of what is lent or of what that holds.
@@ -30,19 +31,6 @@ fn print(text: &[u8], nodes: &mut [u32], comments: &mut [u32], out: &mut [u8]) -
         )
     };
     answer
-}
-
-fn best(bytes: usize, mut run: impl FnMut()) -> f64 {
-    let rounds = 1 + 2_000_000 / bytes.max(1);
-    let mut best = f64::MAX;
-    for _ in 0..RUNS {
-        let begin = Instant::now();
-        for _ in 0..rounds {
-            run();
-        }
-        best = best.min(begin.elapsed().as_secs_f64() / rounds as f64);
-    }
-    bytes as f64 / best / 1e6
 }
 
 fn main() {

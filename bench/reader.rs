@@ -4,14 +4,14 @@
 //!        reader FILE once N     one reading of the first N bytes, to count instructions by
 //!        reader FILE none N     the same set-up without the reading
 
+mod timing;
+
 use std::hint::black_box;
-use std::time::Instant;
+use timing::{best, RUNS};
 
 extern "C" {
     fn hirvelan_read(text: *const u8, length: usize, nodes: *mut u32, nodes_length: usize, comments: *mut u32, comments_length: usize, answer: *mut u32, answer_length: usize);
 }
-
-const RUNS: usize = 25;
 
 /// The contract asks nothing of the text, the tables or what they hold.
 fn read(text: &[u8], nodes: &mut [u32], comments: &mut [u32]) -> [u32; 3] {
@@ -41,14 +41,8 @@ fn main() {
         println!("{} bytes, refused: {} at {}, length {}", text.len(), answer[0], answer[1], answer[2]);
     }
     let (n, c) = if answer[0] == 0 { (answer[1] as usize, answer[2] as usize) } else { (0, 0) };
-    let rounds = 1 + 2_000_000 / text.len().max(1);
-    let mut best = f64::MAX;
-    for _ in 0..RUNS {
-        let begin = Instant::now();
-        for _ in 0..rounds {
-            black_box(read(black_box(&text), &mut nodes[..9 * n], &mut comments[..9 * c]));
-        }
-        best = best.min(begin.elapsed().as_secs_f64() / rounds as f64);
-    }
-    println!("{:.1} MB/s, the best of {RUNS} runs", text.len() as f64 / best / 1e6);
+    let speed = best(text.len(), || {
+        black_box(read(black_box(&text), &mut nodes[..9 * n], &mut comments[..9 * c]));
+    });
+    println!("{speed:.1} MB/s, the best of {RUNS} runs");
 }
