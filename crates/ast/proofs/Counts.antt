@@ -33,6 +33,7 @@ use Rattle.ast.specs.Records.{
   notes,
   concat,
   filled,
+  cleared,
 }
 
 -- how many comments a tree has
@@ -136,3 +137,7 @@ pub filled-length : (rs : List (List ℕ)) (table : List ℕ) → length (concat
 unfolding filled
 filled-length rs table h =
     omega (arith, length-append (concat rs) (replicate (length table - length (concat rs)) 0), length-replicate {A = ℕ} (length table - length (concat rs)) 0)
+
+pub cleared-same : (t r : List ℕ) → length r ≡ length t → cleared r ≡ cleared t
+unfolding cleared
+cleared-same t r e = ap (λ (n : ℕ). replicate n 0) e

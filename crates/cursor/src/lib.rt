@@ -81,7 +81,7 @@ pub fn pass_comment(at: Cursor) -> Cursor
 }
 
 // Copies bytes to the front of a slice that is as long or longer.
-fn copy(out: &mut [u8], bytes: &[u8])
+pub fn copy(out: &mut [u8], bytes: &[u8])
     requires { ⌜ length (now bytes) ≤ length (now out) ⌝ }
     ensures { λ _. ⌜ now (out .exit) ≡ now (bytes .entry) ++ drop (length (now (bytes .entry))) (now (out .entry)) ⌝ }
 {

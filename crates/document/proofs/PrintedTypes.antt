@@ -14,7 +14,7 @@ use Rattle.token.specs.Patterns.{words, rest, marks, shapes, wordRule, token}
 use Rattle.token.specs.Words.{same}
 use Rattle.token.specs.declared.Token.{Token}
 use Rattle.token.specs.declared.Token.the-variants as Tok
-use Rattle.token.proofs.Keyword.{only, none-has, keyword-bytes}
+use Rattle.token.proofs.Keyword.{only, none-has, keyword-bytes, one-code}
 use Rattle.lexer.specs.declared.location.LOC.{LOC}
 use Rattle.lexer.specs.Tokens.{Lexeme, lexeme}
 use Rattle.ast.specs.Ast.{FieldType, CommonType, ListType, SetType, MapType}
@@ -30,14 +30,6 @@ use Rattle.document.proofs.PrintedLeaves.{Good, leaf-printed}
 use Rattle.document.proofs.Ahead.{Rows, under, unders, ownedBefore, noted, noteds, Got, got, on, Job, At, kind-is, moved, passes, puts1, puts2}
 
 -- ---- the words of containers
-
-one-code : (k j : Token) → among k (j ∷ []) ≡ true → code k ≡ code j
-unfolding among is
-one-code k j = go (eqb (code k) (code j)) refl
-  where
-    go : (b : Bool) → eqb (code k) (code j) ≡ b → (b || false) ≡ true → code k ≡ code j
-    go true e h = eqb-true (code k) (code j) e
-    go false e h = cc
 
 module _ (text : List ℕ) where
   word-is : (j : Token) (v : List ℕ) → T (only (code j) v words) → T (none-has (code j) rest) → {t : Lexeme} → Keyword (Good text) j t → bytes t ≡ v

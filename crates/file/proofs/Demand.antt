@@ -25,7 +25,7 @@ use Rattle.writer.specs.Print.{printed}
 use Rattle.writer.proofs.Places.{print-forget, print-drop}
 use Rattle.file.specs.Agree.{Agree}
 use Rattle.file.specs.Demand.{Accepts, Premise, Fixed, Alike, Demand3}
-use Rattle.file.proofs.Printed.{Again, well-read, print-reads, print-again}
+use Rattle.file.proofs.Printed.{Again, well-read, print-reads, print-again, results}
 use Rattle.file.proofs.Agreement.{agree-of-same, same-of-agree}
 use Rattle.file.proofs.Steps.{Both, accepts-reads, reads-accepts, stays-calls}
 
@@ -48,10 +48,6 @@ print-fixed indent t ds h =
       agree = agree-of-same (a .found) ds (dropped-same (a .found) ds (a .same-tree));
       same-bytes = printed-same indent (a .found) ds (a .same-tree);
     }
-
-results : Res (List Definition) → List Definition
-results (ok ds s) = ds
-results (no e l) = []
 
 module _ (indent : ℕ) (t u : List ℕ) (ds es : List Definition) (bt : Bytes t) (bu : Bytes u) (rt : outcome t ≡ read ds) (ru : outcome u ≡ read es)
     (nt : All Numbered ds) (nu : All Numbered es) where

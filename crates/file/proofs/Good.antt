@@ -14,7 +14,7 @@ use Rattle.token.specs.Breaks.{Bytes}
 use Rattle.token.specs.declared.Token.{Token}
 use Rattle.token.specs.declared.Scan.{Scan}
 use Rattle.token.specs.declared.Scan.the-variants.{Miss, Hit}
-use Rattle.token.proofs.Stable.{alone}
+use Rattle.token.proofs.Stable.{alone, bytes-take}
 use Rattle.lexer.specs.declared.location.Lexer.{Lexer}
 use Rattle.lexer.specs.declared.Checked.the-variants as C
 use Rattle.lexer.specs.Utf8.{WellFormed}
@@ -34,11 +34,6 @@ abbrev Alone : Cuts → Type 0
 Alone end = Unit
 Alone stuck = Unit
 Alone (cut k w cs) = Bytes w × (scan w ≡ Hit k (length w)) × Alone cs
-
-bytes-take : (n : ℕ) (t : List ℕ) → Bytes t → Bytes (take n t)
-bytes-take zero t b = tt
-bytes-take (suc n) [] b = tt
-bytes-take (suc n) (c ∷ t) b = (b .0, bytes-take n t (b .1))
 
 bytes-drop : (n : ℕ) (t : List ℕ) → Bytes t → Bytes (drop n t)
 bytes-drop zero t b = b

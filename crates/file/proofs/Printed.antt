@@ -106,7 +106,7 @@ pub record Again (t : List ℕ) (xs : List Definition) : Type 0 where
   pub taken : outcome t ≡ read found
   pub same-tree : forget found ≡ forget xs
 
-results : Res (List Definition) → List Definition
+unfoldable pub results : Res (List Definition) → List Definition
 results (ok ds s) = ds
 results (no e l) = []
 

@@ -101,7 +101,7 @@ use Rattle.parser.proofs.Wf as W
 use Rattle.parser.proofs.Wf.{most, Tok}
 use Rattle.writer.proofs.Toks.{Good}
 use Rattle.file.specs.Agree.{Shape, shape, no-shape, bytesCount, noteBytes, shapeOf, shapesOf}
-use Rattle.token.proofs.Keyword.{only, none-has, keyword-bytes, hit-first}
+use Rattle.token.proofs.Keyword.{only, none-has, keyword-bytes, hit-first, one-code}
 use Rattle.file.proofs.Rebuild.{
   kindBy,
   spelled,
@@ -169,14 +169,6 @@ module _ {ks : List Token} where
   id-back {t = lexeme k w l} g = spelled-back g
 
 -- the keyword of a container
-one-code : (k j : Token) → among k (j ∷ []) ≡ true → code k ≡ code j
-unfolding among is
-one-code k j = go (eqb (code k) (code j)) refl
-  where
-    go : (b : Bool) → eqb (code k) (code j) ≡ b → (b || false) ≡ true → code k ≡ code j
-    go true e h = eqb-true (code k) (code j) e
-    go false e h = cc
-
 word-back : (j : Token) (v : List ℕ) → T (only (code j) v words) → T (none-has (code j) rest) → {t : Lexeme} → Tok Good (j ∷ []) t → spelled v ≡ bareL t
 unfolding bytes kind
 word-back j v o n {t = lexeme k w l} g =

@@ -1,5 +1,4 @@
 -- What the code of a call leaves in memory, and the turns of a run.
---     copy-step, copy-done                  a copy, byte by byte
 --     take-most, drop-most, most-long       so many of a slice, or as many as there are
 --     read-is                               a reading
 --     store-refused, store-long, store-in   what is made the file
@@ -15,8 +14,8 @@ use Prim.Native.Nat.{ℕ, suc, _+_, _-_, _≤_, _<_}
 use native.Mathlib.Omega.{arith}
 use lib.Dec.{eqb, leb, ltb}
 use borrow.Author.Tests.{leb-true, leb-false, le-leb, lt-leb, eq-eqb, ne-eqb}
-use lib.ListN.{length, take, drop, set, getD, replicate, length-append, length-drop, drop-of-length-le}
-use lib.Seq.{take-all, take-suc, take-at, drop-cons, set-at, append-snoc, length-take-le}
+use lib.ListN.{length, take, drop, getD, replicate, length-append, length-drop, drop-of-length-le}
+use lib.Seq.{take-all, take-at, drop-cons, length-take-le}
 use Rattle.lexer.specs.Check.{checked}
 use Rattle.ast.specs.Records.{nodeRows, notes, room}
 use Rattle.parser.specs.declared.Answer.{Answer}
@@ -29,24 +28,6 @@ use Rattle.writer.specs.Write as W
 use Rattle.writer.specs.Write.{Printing, told, outcomeAt, printOf, printing}
 use Rattle.file.specs.Calls.{has-printed, gives}
 use Rattle.file.specs.Run.{Request, ask, requestsOf, Memory, held, callOf, keptIn, settled, after, runs}
-
--- ---- copy
-
-abbrev pub copied : ℕ → List ℕ → List ℕ → List ℕ
-copied i b o = take i b ++ drop i o
-
-module _ (i n : ℕ) (b o out : List ℕ) where
-  pub copy-step : n ≤ length o → n ≤ length b → i < n → out ≡ copied i b o → set out i (getD b i 0) ≡ copied (i + 1) b o
-  copy-step h k l e =
-      let s : i + 1 ≡ suc i = omega arith in
-      let p : i < length o = omega arith in
-      let q : i < length b = omega arith in
-      rw (e, s, take-suc b i 0 q, drop-cons o i 0 p)
-      (set-at (take i b) (getD o i 0) (drop (suc i) o) (getD b i 0) i (length-take-le i b (omega arith))
-      ∙ sym (append-snoc (take i b) (getD b i 0) (drop (suc i) o)))
-
-  pub copy-done : i ≤ n → n ≤ i → out ≡ copied i b o → out ≡ copied n b o
-  copy-done h l e = let s : i ≡ n = omega arith in e ∙ rw s
 
 -- ---- so many of a slice, or as many as there are
 
@@ -103,10 +84,10 @@ module _ (size : ℕ) (p : Printed) (out f : List ℕ) where
     unfolding keptIn
     store-long l = rw (h, lt-leb b size l)
 
-    pub store-in : (space space′ : List ℕ) → b ≤ size → b ≤ length out → space′ ≡ copied b out space
+    pub store-in : (space space′ : List ℕ) → b ≤ size → b ≤ length out → space′ ≡ take b out ++ drop (length (take b out)) space
         → take b space′ ≡ keptIn size p out f
     unfolding keptIn
-    store-in space space′ l k e = rw (h, le-leb b size l, e) (take-at (take b out) (drop b space) b (length-take-le b out k))
+    store-in space space′ l k e = rw (h, le-leb b size l, e) (take-at (take b out) (drop (length (take b out)) space) b (length-take-le b out k))
 
 -- ---- print_file
 

@@ -18,18 +18,6 @@ fn at_most(count: usize, there: usize) -> usize
     if count < there { count } else { there }
 }
 
-// The first n bytes of one slice become those of another.
-fn copy(to: &mut [u8], from: &[u8], n: usize)
-    requires { ⌜ (n ≤ length (now to)) × (n ≤ length (now from)) ⌝ }
-    ensures { λ _. ⌜ now (to .exit) ≡ take n (now (from .entry)) ++ drop n (now (to .entry)) ⌝ }
-{
-    let mut i: usize = 0;
-    while i < n {
-        to[i] = from[i];
-        i += 1;
-    }
-}
-
 // A reading of the file, lent the first a numbers of one table and b of the other.
 fn read_file(space: &[u8], file: usize, nodes: &mut [u32], comments: &mut [u32], a: usize, b: usize)
     ensures { λ _. ⌜ (now (nodes .exit) ≡ reading (take file (now (space .entry))) (take a (now (nodes .entry))) (take b (now (comments .entry))) .nodes ++ drop a (now (nodes .entry)))
@@ -57,7 +45,7 @@ fn store(space: &mut [u8], file: usize, printed: Printed, out: &[u8]) -> usize
     if space.len() < bytes {
         return file;
     }
-    copy(space, out, bytes);
+    cursor::copy(space, &out[..bytes]);
     bytes
 }
 

@@ -17,6 +17,8 @@ use Rattle.token.specs.declared.Token.the-variants as T
 use Rattle.token.specs.declared.Scan.{Scan}
 use Rattle.token.specs.declared.Scan.the-variants.{Miss, Hit}
 use Rattle.token.proofs.Every.{every, at}
+use Rattle.token.proofs.Classes.{classes-length}
+use Rattle.token.proofs.Trie.{spellings-length}
 
 abbrev pub elem : ℕ → List ℕ → Bool
 elem n [] = false
@@ -46,10 +48,6 @@ inner-test : T (every inner 0 spellings)
 unfolding inner unended wordsAt spelling stripAll strip words token bytes spellings
 inner-test = tt
 
-spellings-length : length spellings ≡ 151
-unfolding spellings
-spellings-length = refl
-
 pub kind-inner : (n : ℕ) → n < 151 → elem n ends ≡ false → kindOf n ≡ T.Identifier
 unfolding inner kindOf
 kind-inner n h e = unended-lookup (wordsAt n) T.Identifier (rw e at (at inner spellings "-" inner-test n (rw spellings-length h)))
@@ -74,10 +72,6 @@ unmarked k x = cond (elem k marked) true (missed (opened k))
 unmarked-test : T (every unmarked 0 classes)
 unfolding unmarked missed opened whole-byte openings classes
 unmarked-test = tt
-
-classes-length : length classes ≡ 256
-unfolding classes
-classes-length = refl
 
 pub mark-other : (k : ℕ) → k < 256 → elem k marked ≡ false → opened k ≡ Miss
 unfolding unmarked

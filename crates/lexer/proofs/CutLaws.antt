@@ -17,6 +17,7 @@ use Rattle.token.specs.declared.Token.{Token}
 use Rattle.token.specs.declared.Scan.{Scan}
 use Rattle.token.specs.declared.Scan.the-variants.{Miss, Hit}
 use Rattle.token.proofs.Meaning.{scan-longest}
+use Rattle.lexer.proofs.PlaceLaws.{behind-at}
 use Rattle.lexer.specs.declared.location.Lexer.{Lexer}
 use Rattle.lexer.specs.declared.location.Next.{Next}
 use Rattle.lexer.specs.declared.location.Next.the-variants as N
@@ -80,11 +81,6 @@ module _ (t : List ℕ) (at : ℕ) where
       ∙ ap (λ (x : List ℕ). unrecognized (cuts x) (at + n)) (drop-drop n at t)
 
 -- ---- the next token
-
-behind-at : (p : Bool) (s : Lexer) → behind p s .at ≡ s .at + 1
-unfolding behind
-behind-at true s = refl
-behind-at false s = refl
 
 pub pass-at : (w : List ℕ) (k : Token) (s : Lexer) → pass w k s .at ≡ s .at + length w
 unfolding pass

@@ -45,6 +45,7 @@ use Rattle.token.specs.Automaton.{
 use Rattle.token.specs.declared.Scan.the-variants.{Miss}
 use Rattle.token.proofs.Every.{every, at}
 use Rattle.token.proofs.Reach.{dead-scan}
+use Rattle.token.proofs.Classes.{classes-length}
 use Rattle.lexer.proofs.Arms.{elem}
 use Rattle.lexer.proofs.ScanLaws.{closed-done, first-other}
 
@@ -110,10 +111,6 @@ single k x = cond (ltb k 36) true (cond (elem k starters) true (ended (getD open
 single-test : T (every single 0 classes)
 unfolding single ended openings classes
 single-test = tt
-
-classes-length : length classes ≡ 256
-unfolding classes
-classes-length = refl
 
 pub mark-done : {t : List ℕ} → Reached t start 0 Miss → 0 < length t → (k : ℕ) → k ≡ classOf (getD t 0 0) → 36 ≤ k → k < 256 → elem k starters ≡ false → longest t ≡ opened k
 unfolding opened single

@@ -30,7 +30,7 @@ use Rattle.lexer.proofs.PlaceLaws.{pass-placed}
 -- ---- one lexeme
 
 -- the lexer behind the n bytes at s
-behind : List ℕ → Lexer → Token → ℕ → Lexer
+unfoldable pub behind : List ℕ → Lexer → Token → ℕ → Lexer
 behind t s k n = pass (take n (drop (s .at) t)) k s
 
 -- a lexeme of the kind k and of n bytes stands at s

@@ -20,7 +20,7 @@ unfolding behind
 placed-behind true s h l = record { lines = omega (arith, h .lines); line-begun = omega arith; below = omega arith }
 placed-behind false s h l = record { lines = omega (arith, h .lines); line-begun = omega (arith, h .line-begun); below = omega arith }
 
-behind-at : (p : Bool) (s : Lexer) → behind p s .at ≡ s .at + 1
+pub behind-at : (p : Bool) (s : Lexer) → behind p s .at ≡ s .at + 1
 unfolding behind
 behind-at true s = refl
 behind-at false s = refl

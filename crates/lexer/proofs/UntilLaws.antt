@@ -17,7 +17,7 @@ use Rattle.token.specs.Run.{classOf, stops, before}
 use Rattle.token.specs.Automaton.{State, Reached}
 use Rattle.token.specs.declared.Scan.{Scan}
 use Rattle.token.proofs.Every.{every, at}
-use Rattle.token.proofs.Classes.{classes-length}
+use Rattle.token.proofs.Classes.{classes-length, beq-eq}
 use Rattle.token.proofs.Reach.{ended}
 use Rattle.lexer.specs.Until.{until}
 
@@ -37,12 +37,6 @@ module _ (b : ℕ) (t : List ℕ) (i : ℕ) where
   until-all h = rw (drop-of-length-le t h) (omega arith)
 
 -- ---- a class of one byte
-
-beq-eq : (x y : Bool) → T (Bool·beq x y) → x ≡ y
-beq-eq true true t = refl
-beq-eq true false t = absurd t
-beq-eq false true t = absurd t
-beq-eq false false t = refl
 
 -- the byte c is b exactly if its class x is k
 only : ℕ → ℕ → ℕ → ℕ → Bool

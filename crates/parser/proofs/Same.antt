@@ -145,7 +145,7 @@ module _ {A : Type 0} where
   unfolding when
   when-app ks p q s = test-app (peek ks s) p q s
 
-span-nowhere : span nowhere nowhere ≡ nowhere
+pub span-nowhere : span nowhere nowhere ≡ nowhere
 unfolding span nowhere
 span-nowhere = refl
 

@@ -42,7 +42,7 @@ use Rattle.ast.specs.Records.{
   filled,
   cleared,
 }
-use Rattle.ast.proofs.Counts.{node-rows-wide, notes-wide, concat-width, filled-length, node-rows-size}
+use Rattle.ast.proofs.Counts.{node-rows-wide, notes-wide, concat-width, filled-length, node-rows-size, cleared-same}
 use Rattle.parser.specs.Steps.{Res, ok, no, pos}
 use Rattle.parser.specs.declared.Answer.{Answer}
 use Rattle.parser.specs.declared.Answer.the-variants as A
@@ -121,10 +121,6 @@ unfolding room width
 fills rs t w e = filled-length rs t (omega (arith, ltb-false (length t / 9) (length rs) e, w))
 
 -- ---- what is lent and cleared again
-
-cleared-same : (t r : List ℕ) → length r ≡ length t → cleared r ≡ cleared t
-unfolding cleared
-cleared-same t r e = ap (λ (n : ℕ). replicate n 0) e
 
 cleared-twice : (t : List ℕ) → cleared (cleared t) ≡ cleared t
 unfolding cleared

@@ -32,6 +32,7 @@ use Rattle.ast.proofs.Counts.{
   notes-count,
   node-rows-wide,
   notes-wide,
+  cleared-same,
 }
 use Rattle.parser.specs.declared.Answer.{Answer}
 use Rattle.steps.specs.declared.state.State.{State}
@@ -186,10 +187,6 @@ module _ (text : List ℕ) (short : length text ≤ 65536) where
 
   told-same : {a b : Answer} {n m c d : List ℕ} → a ≡ b → n ≡ m → c ≡ d → told a n c ≡ told b m d
   told-same e f g = rw (e, f, g)
-
-  cleared-same : (t r : List ℕ) → length r ≡ length t → cleared r ≡ cleared t
-  unfolding cleared
-  cleared-same t r e = rw e
 
   room-same : (t r : List ℕ) → length r ≡ length t → room r ≡ room t
   unfolding room

@@ -18,6 +18,7 @@ use Rattle.token.specs.Scan.{scan}
 use Rattle.token.specs.declared.Token.{Token}
 use Rattle.token.specs.declared.Scan.{Scan}
 use Rattle.token.specs.declared.Scan.the-variants.{Miss, Hit}
+use Rattle.lexer.proofs.NextLaws.{behind}
 use Rattle.lexer.specs.declared.location.Lexer.{Lexer}
 use Rattle.lexer.specs.declared.location.Next.{Next}
 use Rattle.lexer.specs.declared.location.Next.the-variants as N
@@ -124,9 +125,6 @@ piece-again t at =
 -- ---- the lexer's next token
 
 -- the lexer behind n bytes
-behind : List ℕ → Lexer → Token → ℕ → Lexer
-behind t s k n = pass (take n (drop (s .at) t)) k s
-
 moved : (t : List ℕ) (s : Lexer) (k : Token) (n : ℕ) → scan (drop (s .at) t) ≡ Hit k n → behind t s k n .at ≡ s .at + n
 unfolding behind
 moved t s k n e = pass-at (take n (drop (s .at) t)) k s ∙ omega (arith, length-take-le n (drop (s .at) t) (hit-fits (drop (s .at) t) k n e .1))

@@ -60,7 +60,7 @@ alike c d (seq r s) = both (alike c d r) (alike c d s)
 alike c d (alt r s) = both (alike c d r) (alike c d s)
 alike c d (star r) = alike c d r
 
-beq-eq : (a b : Bool) → T (Bool·beq a b) → a ≡ b
+pub beq-eq : (a b : Bool) → T (Bool·beq a b) → a ≡ b
 beq-eq true true t = refl
 beq-eq true false t = absurd t
 beq-eq false true t = absurd t

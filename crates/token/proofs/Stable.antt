@@ -206,7 +206,7 @@ stable w r r′ k t e st = go (longest (w ++ r)) refl
 
 -- ---- what a printer needs
 
-bytes-take : (n : ℕ) (t : List ℕ) → Bytes t → Bytes (take n t)
+pub bytes-take : (n : ℕ) (t : List ℕ) → Bytes t → Bytes (take n t)
 bytes-take zero t h = tt
 bytes-take (suc n) [] h = tt
 bytes-take (suc n) (c ∷ t) h = (h .0, bytes-take n t (h .1))

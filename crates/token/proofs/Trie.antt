@@ -26,7 +26,7 @@ use Rattle.token.specs.declared.Token.{Token}
 use Rattle.token.specs.declared.Token.the-variants as T
 use Rattle.token.proofs.Truth.{T-true}
 use Rattle.token.proofs.Every.{both, both-left, both-right, every, at}
-use Rattle.token.proofs.Classes.{classes-length, reps-length}
+use Rattle.token.proofs.Classes.{classes-length, reps-length, beq-eq}
 use Rattle.token.proofs.Words.{same-eq}
 
 -- ---- a word looked up letter by letter
@@ -77,18 +77,16 @@ alikes : ℕ → ℕ → List Word → Bool
 alikes c d [] = true
 alikes c d (word k u ∷ ws) = both (alike c d u) (alikes c d ws)
 
-beq-eq : (a b : Bool) → T (Bool·beq a b) → a ≡ b
-beq-eq true true t = refl
-beq-eq true false t = absurd t
-beq-eq false true t = absurd t
-beq-eq false false t = refl
-
 alikes-strip : (c d : ℕ) (ws : List Word) → T (alikes c d ws) → strip c ws ≡ strip d ws
 unfolding alikes alike strip
 alikes-strip c d [] t = refl
 alikes-strip c d (word k [] ∷ ws) t = alikes-strip c d ws t
 alikes-strip c d (word k (a ∷ u) ∷ ws) t =
     rw (beq-eq (eqb a c) (eqb a d) (both-left (Bool·beq (eqb a c) (eqb a d)) _ (both-left (alike c d (a ∷ u)) _ t)), alikes-strip c d ws (both-right (alike c d (a ∷ u)) _ t))
+
+pair : (p q : Bool) → T p → T q → T (both p q)
+pair true q x y = y
+pair false q x y = x
 
 alikes-left : (c d b : ℕ) (ws : List Word) → T (alikes c d ws) → T (alikes c d (strip b ws))
 unfolding alikes alike strip
@@ -97,10 +95,6 @@ alikes-left c d b (word k [] ∷ ws) t = alikes-left c d b ws t
 alikes-left c d b (word k (a ∷ u) ∷ ws) t =
     go (eqb a b) (both-right (Bool·beq (eqb a c) (eqb a d)) _ (both-left (alike c d (a ∷ u)) _ t)) (alikes-left c d b ws (both-right (alike c d (a ∷ u)) _ t))
   where
-    pair : (p q : Bool) → T p → T q → T (both p q)
-    pair true q x y = y
-    pair false q x y = x
-
     go : (p : Bool) → T (alike c d u) → T (alikes c d (strip b ws)) → T (alikes c d (cond p (word k u ∷ strip b ws) (strip b ws)))
     go true x y = pair (alike c d u) _ x y
     go false x y = y
@@ -147,7 +141,7 @@ trie-test : T (every node 0 spellings)
 unfolding node cell nil strip stripAll words token bytes spellings spelling same child trie reps
 trie-test = tt
 
-spellings-length : length spellings ≡ 151
+pub spellings-length : length spellings ≡ 151
 unfolding spellings
 spellings-length = refl
 
@@ -227,10 +221,6 @@ absents-left c b (word k [] ∷ ws) t = absents-left c b ws t
 absents-left c b (word k (a ∷ u) ∷ ws) t =
     go (eqb a b) (both-right (not (eqb a c)) _ (both-left (absent c (a ∷ u)) _ t)) (absents-left c b ws (both-right (absent c (a ∷ u)) _ t))
   where
-    pair : (p q : Bool) → T p → T q → T (both p q)
-    pair true q x y = y
-    pair false q x y = x
-
     go : (p : Bool) → T (absent c u) → T (absents c (strip b ws)) → T (absents c (cond p (word k u ∷ strip b ws) (strip b ws)))
     go true x y = pair (absent c u) _ x y
     go false x y = y

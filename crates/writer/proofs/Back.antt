@@ -23,7 +23,7 @@ use Rattle.parser.specs.Types.{leafTypes, containerTypes, complexType, mapType,
 use Rattle.parser.specs.Values.{leafValues, openers, valuesEnd, property, put, mapProperty, listValue, mapValue, containerValue, valueBy, fieldValue}
 use Rattle.parser.specs.Definitions as D
 use Rattle.parser.specs.Definitions.{separators, nesting, parseType, parseValue, oneSeparator, parseAnnotation, annotationsEnd, parseAnnotations, parseFieldId, parseRequired, parseDefault, parseField, membersEnd, parseMembers, parseParameters, parseThrows, parseReturnType, parseOneway, parseFunction, parseInitializer, parseEnumMember, parseInclude, parseNamespace, parseConst, parseTypedef, parseEnum, parseStructure, parseExtends, parseService, parseDefinition, documentEnd, parseDocument}
-use Rattle.parser.proofs.Same.{kind-bare, bytes-bare, place-bare}
+use Rattle.parser.proofs.Same.{kind-bare, bytes-bare, place-bare, span-nowhere}
 use Rattle.parser.proofs.Loops.{loop-end, loop-more}
 use Rattle.parser.proofs.Wf.{commentKinds, most, Tok, WfType, wcommon, wlist, wset, wmap, WfValue, wleaf, wseq, wdict, WfElements, wnil, wcons, WfProperties, wpnil, wpcons, WfAnnotation, wannotation, WfAnnotations, wabsent, wannotations, WfId, wid, WfDefault, wnone, wsome, WfField, wfield, WfThrows, wquiet, wthrows, WfReturn, wvoid, wtype, WfFunction, wfunction, WfOption, wnothing, wjust, WfMember, wmember, WfDefinition, winclude, wcpp, wnamespace, wconst, wtypedef, wenum, wstructure, wservice}
 use Rattle.writer.specs.Print.{Piece, gap, mark, word, note, own, keyword, space, line, comma, writeType, writeValue, writeElements, moreElements, writeProperties, moreProperties, writeEach, commas, nothing, writeAnnotation, writeAnnotations, writeComment, writeComments, writeId, writeRequired, writeDefault, writeField, writeParam, writeInitializer, writeMember, writeThrows, writeOneway, writeFunction, writeBody, structureKeyword, writeExtends, writeDefinition, pieces}
@@ -96,10 +96,6 @@ is-among k j = go (is k j)
     go false = refl
 
 -- ---- single tokens
-
-span-nowhere : span nowhere nowhere ≡ nowhere
-unfolding span nowhere
-span-nowhere = refl
 
 gap-rt : (b : List ℕ) (r : List Piece) → toks (gap b ∷ r) ≡ toks r
 unfolding toks
@@ -227,11 +223,6 @@ module _ (l : LOC) (c : List Lexeme) where
   unfolding skip-comments-discard skip pass peek by
   discard-stay [] h = refl
   discard-stay (t ∷ ts) h = rw (fate-comment over (kind t) h)
-
-  trivia-stay : (ts : List Lexeme) → peek separators (pos l c ts) ≡ false → peek commentKinds (pos l c ts) ≡ false → skip-trivia (pos l c ts) ≡ ok tt (pos l c ts)
-  unfolding skip-trivia skip pass peek by
-  trivia-stay [] h g = refl
-  trivia-stay (t ∷ ts) h g = rw (fate-neither over wait (kind t) h g)
 
 -- a comma is passed over
 separator-comma : (c : List Lexeme) (b : List ℕ) (r : List Piece) → skip-separator (on c (comma ∷ gap b ∷ r)) ≡ skip-separator (on c r)
