@@ -14,13 +14,14 @@ use Rattle.token.specs.Patterns.{words, rest, marks, shapes, wordRule, token}
 use Rattle.token.specs.Words.{same}
 use Rattle.token.specs.declared.Token.{Token}
 use Rattle.token.specs.declared.Token.the-variants as Tok
-use Rattle.token.proofs.Keyword.{only, none-has, keyword-bytes, one-code}
+use Rattle.token.proofs.Keyword.{only, none-has, keyword-bytes}
 use Rattle.lexer.specs.declared.location.LOC.{LOC}
 use Rattle.lexer.specs.Tokens.{Lexeme, lexeme}
 use Rattle.ast.specs.Ast.{FieldType, CommonType, ListType, SetType, MapType}
 use Rattle.ast.specs.Tree.{Tree, node, Forest, bare, grown, leaf, inner, single, both, typeTree}
 use Rattle.ast.specs.Records.{row, size, sizes}
 use Rattle.parser.specs.Steps.{kind, bytes, place}
+use Rattle.parser.proofs.KindLaws.{one-kind}
 use Rattle.parser.proofs.Lexemes.{Keyword, EachType, ecommon, elist, eset, emap}
 use Rattle.writer.specs.Print.{Piece, bytesOf, own, mark, comma, space, writeType}
 use Rattle.cursor.specs.declared.Cursor.{Cursor}
@@ -34,7 +35,7 @@ use Rattle.document.proofs.Ahead.{Rows, under, unders, ownedBefore, not
 module _ (text : List ℕ) where
   word-is : (j : Token) (v : List ℕ) → T (only (code j) v words) → T (none-has (code j) rest) → {t : Lexeme} → Keyword (Good text) j t → bytes t ≡ v
   word-is j v o n {t} g =
-      let e : code (kind t) ≡ code j = one-code (kind t) j (g .kinds) in
+      let e : code (kind t) ≡ code j = ap code (one-kind (kind t) j (g .kinds)) in
       keyword-bytes v (bytes t) (kind t) (rw e o) (rw e n) (g .holds .ruled .rule)
 
   list-is : {t : Lexeme} → Keyword (Good text) Tok.List t → bytes t ≡ ascii "list"

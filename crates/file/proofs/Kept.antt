@@ -2,7 +2,7 @@
 --     run-kept   for every list of requests, every file that the premise holds of, and whatever is lent
 -- Assumes nothing.
 use mathlib.Core.Path.{_≡_, refl, sym, ap, _∙_}
-use mathlib.Core.Bool.{Bool, true, false, cond, _||_}
+use mathlib.Core.Bool.{Bool, true, false, cond, _||_, or-false, or-assoc}
 use mathlib.Core.List.{List, [], _∷_, _++_}
 use Prim.Native.Nat.{ℕ, _≤_}
 use native.Mathlib.Omega.{arith}
@@ -47,14 +47,6 @@ unfolding after
 after-file space indent q m ds h e =
     ap (λ (g : Given). settled space q g m .file) e ∙ settled-file space indent q m ds h ∙ ap (λ (g : Given). leaves g (m .file)) (sym e)
 
-or-false : (b : Bool) → b ≡ (b || false)
-or-false true = refl
-or-false false = refl
-
-or-or : (a b c : Bool) → ((a || b) || c) ≡ (a || (b || c))
-or-or true b c = refl
-or-or false b c = refl
-
 module _ (space indent : ℕ) (t : List ℕ) (ds again : List Definition) (one : Accepts indent t ds) (two : Accepts indent (printed indent ds) again)
     (alike : printed indent again ≡ printed indent ds) (self : Agree ds ds) (agrees : Agree again ds) (fits : length (printed indent ds) ≤ space) where
   abbrev stood : Bool → List ℕ
@@ -81,7 +73,7 @@ module _ (space indent : ℕ) (t : List ℕ) (ds again : List Definition) (one :
   runs-file : (qs : List Request) (b : Bool) (m : Memory) → m .file ≡ stood b →
       runs space indent qs m .file ≡ stood (b || anyPrint (trace indent (callsOf space indent qs m) (m .file)))
   unfolding runs callsOf trace anyPrint
-  runs-file [] b m e = e ∙ ap stood (or-false b)
+  runs-file [] b m e = e ∙ ap stood (sym (or-false b))
   runs-file (q ∷ qs) b m e =
       let x = printsIt (gives indent (callOf q m) (m .file)) in
       let n = after space indent q m in
@@ -89,7 +81,7 @@ module _ (space indent : ℕ) (t : List ℕ) (ds again : List Definition) (one :
       runs-file qs (b || x) n (next-file b q m e)
       ∙ ap stood
       (ap (λ (f : List ℕ). (b || x) || anyPrint (trace indent (callsOf space indent qs n) f)) same
-      ∙ or-or b x (anyPrint (trace indent (callsOf space indent qs n) (leaves (gives indent (callOf q m) (m .file)) (m .file)))))
+      ∙ or-assoc b x (anyPrint (trace indent (callsOf space indent qs n) (leaves (gives indent (callOf q m) (m .file)) (m .file)))))
 
 pub run-kept : (space indent : ℕ) (qs : List Request) (m : Memory) (end : List ℕ) → end ≡ runs space indent qs m .file → Unaltered space indent qs m end
 unfolding limit

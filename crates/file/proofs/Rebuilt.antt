@@ -7,7 +7,7 @@ use mathlib.Core.Bool.{Bool, true, false, cond, not, _||_}
 use mathlib.Core.List.{List, [], _∷_}
 use mathlib.Core.Option.{Option, some, none}
 use Prim.Native.Nat.{ℕ, suc, _+_, _<_}
-use borrow.Author.Tests.{eqb-true}
+use borrow.Author.Tests.{not-true}
 use lib.Dec.{T, eqb}
 use native.Mathlib.Omega.{arith}
 use lib.ListN.{length}
@@ -99,9 +99,10 @@ use Rattle.ast.proofs.Forget.{
 use Rattle.parser.specs.Steps.{kind, bytes}
 use Rattle.parser.proofs.Wf as W
 use Rattle.parser.proofs.Wf.{most, Tok}
+use Rattle.parser.proofs.KindLaws.{one-kind}
 use Rattle.writer.proofs.Toks.{Good}
 use Rattle.file.specs.Agree.{Shape, shape, no-shape, bytesCount, noteBytes, shapeOf, shapesOf}
-use Rattle.token.proofs.Keyword.{only, none-has, keyword-bytes, hit-first, one-code}
+use Rattle.token.proofs.Keyword.{only, none-has, keyword-bytes, hit-first}
 use Rattle.file.proofs.Rebuild.{
   kindBy,
   spelled,
@@ -172,7 +173,7 @@ module _ {ks : List Token} where
 word-back : (j : Token) (v : List ℕ) → T (only (code j) v words) → T (none-has (code j) rest) → {t : Lexeme} → Tok Good (j ∷ []) t → spelled v ≡ bareL t
 unfolding bytes kind
 word-back j v o n {t = lexeme k w l} g =
-    let e : code k ≡ code j = one-code k j (g .kinds) in
+    let e : code k ≡ code j = ap code (one-kind k j (g .kinds)) in
     ap spelled (sym (keyword-bytes v w k (rw e o) (rw e n) (rw (take-all (length w) w (omega arith)) at (hit-first w k (length w) (g .good .scanned))))) ∙ spelled-back g
 
 list-back : {t : Lexeme} → Tok Good (T.List ∷ []) t → spelled (ascii "list") ≡ bareL t
@@ -337,11 +338,7 @@ value-here (ConstMap l ps) = refl
 
 not-both : (s : Shape) → holds noAnnotations s ≡ true → holds anAnnotations s ≡ false
 unfolding holds noAnnotations anAnnotations
-not-both (shape k f w c ts) = go (eqb k 14)
-  where
-    go : (b : Bool) → not b ≡ true → b ≡ false
-    go true e = sym e
-    go false e = refl
+not-both (shape k f w c ts) = not-true (eqb k 14)
 
 -- the annotations behind other parts
 module _ {A : Type 0} (t : A → Tree) (other : (x : A) → holds anAnnotations (shapeOf (t x)) ≡ false) where

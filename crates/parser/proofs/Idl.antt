@@ -98,13 +98,9 @@ use Rattle.parser.specs.Idl.{
   WithinProperties,
 }
 use Rattle.parser.proofs.Wf.{commentKinds}
-use Rattle.parser.proofs.KindLaws.{same-kind}
+use Rattle.parser.proofs.KindLaws.{either, same-kind}
 
 -- ---- kinds
-
-either : {X : Type 0} (a b : Bool) → (a || b) ≡ true → (a ≡ true → X) → (b ≡ true → X) → X
-either true b h f g = f refl
-either false b h f g = g h
 
 -- of a kind that is among these, what holds of each of them
 data Each (R : Token → Type 0) : List Token → Type 0 where

@@ -1,10 +1,11 @@
 -- Kinds of tokens against their numbers, by tests over all 52; `agree`, `alike` and `Tests` are for the tests of the code (steps/proofs/SkipLaws, grammar/proofs/KindTests).
+--     either              of two tests one holds
 --     same-kind           kinds of one number are one
 --     agree, alike        two functions of a kind that give the same at each of them
 --     Tests               a test of a number that says whether a kind is among these, and fails where no token is ahead
 -- Assumes nothing.
 use mathlib.Core.Path.{_≡_, refl, sym, ap, _∙_}
-use mathlib.Core.Bool.{Bool, true, false, not, cond, _||_, _&&_, false≢true}
+use mathlib.Core.Bool.{Bool, true, false, not, cond, _||_, _&&_, or-false, false≢true}
 use mathlib.Core.List.{List, [], _∷_}
 use Prim.Native.Nat.{ℕ, zero, suc}
 use borrow.Author.Tests.{eqb-true}
@@ -15,6 +16,10 @@ use Rattle.token.specs.declared.Token.{Token}
 use Rattle.token.specs.declared.Token.the-variants as T
 use Rattle.parser.specs.Definitions.{separators}
 use Rattle.parser.proofs.Wf.{commentKinds}
+
+pub either : {X : Type 0} (a b : Bool) → (a || b) ≡ true → (a ≡ true → X) → (b ≡ true → X) → X
+either true b h f g = f refl
+either false b h f g = g h
 
 -- every kind, by its number
 abbrev pub kinds : List Token
@@ -135,17 +140,13 @@ pub code-some : (k : Token) → eqb (code k) 255 ≡ false
 unfolding all same code
 code-some = agree (λ k. eqb (code k) 255) (λ k. false) refl refl
 
-or-false : (a : Bool) → a ≡ (a || false)
-or-false true = refl
-or-false false = refl
-
 pub one-test : (j : Token) → Tests (λ n. eqb n (code j)) (j ∷ [])
 unfolding among is
-one-test j = record { agrees = λ k. or-false (eqb (code k) (code j)); fails = code-below j }
+one-test j = record { agrees = λ k. sym (or-false (eqb (code k) (code j))); fails = code-below j }
 
 pub one-kind : (k j : Token) → among k (j ∷ []) ≡ true → k ≡ j
 unfolding among
-one-kind k j h = same-kind k j (or-false (is k j) ∙ h)
+one-kind k j h = same-kind k j (sym (or-false (is k j)) ∙ h)
 
 -- no kind is both a separator's and a comment's
 pub apart : (k : Token) → among k commentKinds ≡ true → among k separators ≡ false

@@ -8,12 +8,12 @@ use mathlib.Core.Bool.{Bool, true, false, cond, not, _&&_, _||_}
 use mathlib.Core.List.{List, [], _∷_, _++_, map}
 use Prim.Native.Nat.{ℕ}
 use native.Mathlib.Omega.{arith}
-use borrow.Author.Tests.{eq-eqb, eqb-true, leb-true}
+use borrow.Author.Tests.{eq-eqb, leb-true}
 use lib.Dec.{T, leb, eqb}
 use lib.ListN.{take}
 use Rattle.token.specs.Regex.{Range, within, then}
 use Rattle.token.specs.Patterns.{Rule, rule, Word, word, exact, wordRule, words, rest, rules}
-use Rattle.token.specs.Code.{code, is, among}
+use Rattle.token.specs.Code.{code}
 use Rattle.token.specs.Match.{In, First, Longest}
 use Rattle.token.specs.Scan.{scan}
 use Rattle.token.specs.Words.{same}
@@ -75,12 +75,3 @@ keyword-bytes v w k o n f = only-first words rest v w k o n f
 -- what is scanned is the first rule's that has it
 pub hit-first : (t : List ℕ) (k : Token) (n : ℕ) → scan t ≡ Hit k n → First rules (take n t) k
 hit-first t k n e = let l : Longest t (Hit k n) = subst (Longest t) e (scan-longest t) in l .2
-
--- of one kind
-pub one-code : (k j : Token) → among k (j ∷ []) ≡ true → code k ≡ code j
-unfolding among is
-one-code k j = go (eqb (code k) (code j)) refl
-  where
-    go : (b : Bool) → eqb (code k) (code j) ≡ b → (b || false) ≡ true → code k ≡ code j
-    go true e h = eqb-true (code k) (code j) e
-    go false e h = cc

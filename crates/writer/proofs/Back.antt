@@ -1,6 +1,6 @@
 -- The printed tokens read back as what was printed, places forgotten, and without what write_param drops. Assumes nothing.
 use mathlib.Core.Path.{_≡_, refl, ap, sym, _∙_}
-use mathlib.Core.Bool.{Bool, true, false, cond, _||_}
+use mathlib.Core.Bool.{Bool, true, false, cond, or-false}
 use mathlib.Core.Option.{Option, none}
 use mathlib.Core.List.{List, [], _∷_, _++_, append-assoc, append-nil}
 use Prim.Native.Nat.{ℕ, suc, zero, _<_}
@@ -24,6 +24,7 @@ use Rattle.parser.specs.Values.{leafValues, openers, valuesEnd, property, put, 
 use Rattle.parser.specs.Definitions as D
 use Rattle.parser.specs.Definitions.{separators, nesting, parseType, parseValue, oneSeparator, parseAnnotation, annotationsEnd, parseAnnotations, parseFieldId, parseRequired, parseDefault, parseField, membersEnd, parseMembers, parseParameters, parseThrows, parseReturnType, parseOneway, parseFunction, parseInitializer, parseEnumMember, parseInclude, parseNamespace, parseConst, parseTypedef, parseEnum, parseStructure, parseExtends, parseService, parseDefinition, documentEnd, parseDocument}
 use Rattle.parser.proofs.Same.{kind-bare, bytes-bare, place-bare, span-nowhere}
+use Rattle.parser.proofs.KindLaws.{either}
 use Rattle.parser.proofs.Loops.{loop-end, loop-more}
 use Rattle.parser.proofs.Wf.{commentKinds, most, Tok, WfType, wcommon, wlist, wset, wmap, WfValue, wleaf, wseq, wdict, WfElements, wnil, wcons, WfProperties, wpnil, wpcons, WfAnnotation, wannotation, WfAnnotations, wabsent, wannotations, WfId, wid, WfDefault, wnone, wsome, WfField, wfield, WfThrows, wquiet, wthrows, WfReturn, wvoid, wtype, WfFunction, wfunction, WfOption, wnothing, wjust, WfMember, wmember, WfDefinition, winclude, wcpp, wnamespace, wconst, wtypedef, wenum, wstructure, wservice}
 use Rattle.writer.specs.Print.{Piece, gap, mark, word, note, own, keyword, space, line, comma, writeType, writeValue, writeElements, moreElements, writeProperties, moreProperties, writeEach, commas, nothing, writeAnnotation, writeAnnotations, writeComment, writeComments, writeId, writeRequired, writeDefault, writeField, writeParam, writeInitializer, writeMember, writeThrows, writeOneway, writeFunction, writeBody, structureKeyword, writeExtends, writeDefinition, pieces}
@@ -57,10 +58,6 @@ cond-snd : (a b : Bool) → cond a b false ≡ true → (a ≡ true) × (b ≡ t
 cond-snd true b e = (refl, e)
 cond-snd false b e = (cc, cc)
 
-or-elim : {X : Type 0} (a b : Bool) → (a || b) ≡ true → (a ≡ true → X) → (b ≡ true → X) → X
-or-elim true b h f g = f refl
-or-elim false b h f g = g h
-
 is-code : (k j : Token) → is k j ≡ true → code k ≡ code j
 unfolding is
 is-code k j e = eqb-true (code k) (code j) e
@@ -71,7 +68,7 @@ nil-never k a b e = cc
 
 among-or : {X : Type 0} (k j : Token) (ks : List Token) → among k (j ∷ ks) ≡ true → (code k ≡ code j → X) → (among k ks ≡ true → X) → X
 unfolding among
-among-or k j ks h f g = or-elim (is k j) (among k ks) h (λ e. f (is-code k j e)) g
+among-or k j ks h f g = either (is k j) (among k ks) h (λ e. f (is-code k j e)) g
 
 apart-among : (ks js : List Token) → apart ks js ≡ true → (k : Token) → among k ks ≡ true → among k js ≡ false
 unfolding apart
@@ -89,11 +86,7 @@ inside-among (j ∷ ks) js e k h =
 
 is-among : (k j : Token) → is k j ≡ among k (j ∷ [])
 unfolding among
-is-among k j = go (is k j)
-  where
-    go : (b : Bool) → b ≡ (b || false)
-    go true = refl
-    go false = refl
+is-among k j = sym (or-false (is k j))
 
 -- ---- single tokens
 
