@@ -17,12 +17,12 @@ use Rattle.lexer.specs.Utf8.{illFormed}
 use Rattle.lexer.specs.Cuts.{cuts, unrecognized}
 use Rattle.lexer.specs.Check.{limit, verdict, checked}
 
-found-at : (o : Option ℕ) (p : ℕ) → found o ≡ At p → o ≡ some p
+pub found-at : (o : Option ℕ) (p : ℕ) → found o ≡ At p → o ≡ some p
 unfolding found
 found-at (some q) p e = cc
 found-at none p e = cc
 
-found-none : (o : Option ℕ) → found o ≡ Nowhere → o ≡ none
+pub found-none : (o : Option ℕ) → found o ≡ Nowhere → o ≡ none
 unfolding found
 found-none (some q) e = cc
 found-none none e = refl

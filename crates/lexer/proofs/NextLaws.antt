@@ -3,10 +3,12 @@
 --     next-inside   a token is not empty and lies inside the text
 --     tokens-on     the tokens are the next one and those behind it
 --     tokens-end, tokens-unrecognized   where there is no next token there are none
+--     unrecognized-on   the offset where no token starts is the same from behind a token on
 -- Assumes nothing.
 use mathlib.Core.Path.{_≡_, refl, sym, ap, _∙_}
 use mathlib.Core.Bool.{Bool, true, false, cond}
 use mathlib.Core.List.{List, [], _∷_}
+use mathlib.Core.Option.{Option}
 use Prim.Native.Nat.{ℕ, zero, suc, _+_, _-_, _<_, _≤_}
 use native.Mathlib.Omega.{arith}
 use borrow.Author.Tests.{ltb-true, ltb-false}
@@ -21,10 +23,10 @@ use Rattle.lexer.specs.declared.location.Lexer.{Lexer}
 use Rattle.lexer.specs.declared.location.ParserToken.{ParserToken}
 use Rattle.lexer.specs.declared.location.Next.{Next}
 use Rattle.lexer.specs.declared.location.Next.the-variants as N
-use Rattle.lexer.specs.Cuts.{Cuts, end, stuck, cut, cuts}
+use Rattle.lexer.specs.Cuts.{Cuts, end, stuck, cut, cuts, unrecognized}
 use Rattle.lexer.specs.Location.{Placed, pass, between, spanOf}
 use Rattle.lexer.specs.Tokens.{Lexeme, lexeme, skipped, lexemes, tokens, nextOf, next, lexemeOf}
-use Rattle.lexer.proofs.CutLaws.{hit-fits, cuts-hit, pass-at, next-end, next-miss, next-hit}
+use Rattle.lexer.proofs.CutLaws.{hit-fits, cuts-hit, unrecognized-hit, pass-at, next-end, next-miss, next-hit}
 use Rattle.lexer.proofs.PlaceLaws.{pass-placed}
 
 -- ---- one lexeme
@@ -124,6 +126,19 @@ next-inside t s e p g =
     (λ s k n f _. let m = moved t s k n f in let h = fits t s k n f in (omega arith, omega (arith, m, h .0), refl, omega (arith, m, h .1)))
     (λ s e p k n f _ r. (omega (arith, moved t s k n f, r .0), r .1, r .2, r .3))
     s e p g
+
+-- ---- where no token starts
+
+abbrev pub Stuck : List ℕ → Lexer → Option ℕ
+Stuck t s = unrecognized (cuts (drop (s .at) t)) (s .at)
+
+stuck-hit : (t : List ℕ) (s : Lexer) (k : Token) (n : ℕ) → Stands t s k n → Stuck t s ≡ Stuck t (behind t s k n)
+unfolding Stands
+stuck-hit t s k n f = unrecognized-hit t (s .at) k n f ∙ rw (moved t s k n f)
+
+pub unrecognized-on : (t : List ℕ) (s e : Lexer) (p : ParserToken) → next t s ≡ N.On p e → Stuck t s ≡ Stuck t e
+unrecognized-on t s e p g =
+    on-induct t (λ s p e. Stuck t s ≡ Stuck t e) (λ s k n f b. stuck-hit t s k n f) (λ s e p k n f b r. stuck-hit t s k n f ∙ r) s e p g
 
 -- ---- the list of the tokens
 

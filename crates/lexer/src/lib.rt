@@ -7,7 +7,7 @@ mod words;
 
 ghost use mathlib.Core.Path.{_≡_};
 ghost use Prim.Native.Nat.{_≤_};
-ghost use lib.ListN.{length};
+ghost use lib.ListN.{length, drop};
 ghost use Rattle.token.specs.Tables.{classes, trie as nodes};
 ghost use Rattle.lexer.specs.Found.{found};
 ghost use Rattle.lexer.specs.Cuts.{cuts, unrecognized};
@@ -21,7 +21,7 @@ use token::Scan;
 use token::Token;
 
 // The longest text that is read.
-const LIMIT: usize = 65536;
+pub const LIMIT: usize = 65536;
 
 // What the check of a whole text finds.
 pub enum Checked {
@@ -77,12 +77,12 @@ pub fn next_token(class: &[u8; 256], trie: &[u8; 512], text: &[u8], lexer: Lexer
     }
 }
 
-// The offset where no token starts.
-fn unrecognized(class: &[u8; 256], trie: &[u8; 512], text: &[u8]) -> Found
+// The first offset where no token starts, the text cut from an offset on.
+pub fn unrecognized(class: &[u8; 256], trie: &[u8; 512], text: &[u8], from: usize) -> Found
     requires { ⌜ (now class ≡ classes) × (now trie ≡ nodes) ⌝ }
-    ensures { λ r. ⌜ r ≡ found (unrecognized (cuts (now (text .entry))) 0) ⌝ }
+    ensures { λ r. ⌜ r ≡ found (unrecognized (cuts (drop from (now (text .entry)))) from) ⌝ }
 {
-    let mut at: usize = 0;
+    let mut at = from;
     while at < text.len() {
         let found = scan::scan_token(class, trie, &text[at..]);
         let Scan::Hit(_, n) = found else {
@@ -105,7 +105,7 @@ pub fn check(text: &[u8]) -> Checked
     }
     let class = table::CLASS;
     let trie = table::WORDS;
-    match unrecognized(&class, &trie, text) {
+    match unrecognized(&class, &trie, text, 0) {
         Found::At(at) => Checked::Unrecognized(at),
         Found::Nowhere => Checked::Fine,
     }

@@ -1,21 +1,24 @@
--- What the code (its model, specs/Into) does to the state and to both tables means the definitions, for every text that passed 20, 21 and 22 and any two tables.
+-- What the code (its model, specs/Into) does to the state and to both tables means the definitions, for every text that passed 20 and 21 and any two tables.
 --     document-m          the document: its definitions' records, in both tables
 --     parsing-means       the whole: the answer and both tables afterwards
 -- Assumes nothing.
 use mathlib.Core.Path.{_≡_, refl, sym, ap, _∙_}
 use mathlib.Core.Bool.{Bool, true, false, cond}
 use mathlib.Core.List.{List, [], _∷_, _++_, append-assoc, append-nil}
+use mathlib.Core.Option.{Option, some, none}
 use Prim.Native.Nat.{ℕ, suc, _+_, _*_, _-_, _≤_}
 use native.Mathlib.Omega.{arith}
 use borrow.Author.Tests.{ltb-false}
 use lib.Dec.{eqb, ltb}
 use lib.ListN.{length, take, drop}
-use Rattle.lexer.specs.declared.Checked.the-variants as C
+use Rattle.lexer.specs.declared.Found.the-variants.{Nowhere}
 use Rattle.lexer.specs.declared.location.LOC.{LOC}
 use Rattle.lexer.specs.Location.{between, opening}
 use Rattle.lexer.specs.Tokens.{Lexeme, tokens}
-use Rattle.lexer.specs.Check.{checked}
-use Rattle.lexer.proofs.Ascii.{fine-means}
+use Rattle.lexer.specs.Cuts.{cuts, unrecognized}
+use Rattle.lexer.specs.Found.{found}
+use Rattle.lexer.specs.Utf8.{illFormed}
+use Rattle.lexer.proofs.CheckLaws.{unknown, fine}
 use Rattle.lexer.proofs.PlaceLaws.{opening-placed}
 use Rattle.ast.specs.Lists.{anil}
 use Rattle.ast.specs.Ast.{Definition}
@@ -40,12 +43,13 @@ use Rattle.parser.specs.Steps.{St, pos, Res, test, fail, many}
 use Rattle.parser.specs.Definitions.{parseDefinition, over, documentEnd, parseDocument}
 use Rattle.parser.specs.Read.{parsed, endRule, answered, outcomeBy, outcome, fitted, answer, left, rowsBy, reading, told}
 use Rattle.steps.specs.Into.{Out, done, stop, refused, most, closesAt, restAt, wiped}
-use Rattle.reader.specs.Into.{inRest, restIn, overIn, betweenIn, documentIn, beginning, refusing, ended, refusingAt, fits, judged, parsing}
+use Rattle.reader.specs.Into.{inRest, restIn, overIn, betweenIn, documentIn, beginning, refusing, ended, refusingAt, fits, judged, unscanned, settled, parsing}
+use Rattle.reader.proofs.Whole.{read-unknown}
 use Rattle.steps.proofs.TableLaws.{lay, lay-append, length-lay, lay-rest, wiped-lay}
 use Rattle.steps.proofs.ForestLaws.{_⊕_, sizes-plus, counts-plus, rows-plus, notes-plus}
 use Rattle.parser.proofs.Paid.{tokens-bound}
 use Rattle.steps.proofs.Seen.{advance-ahead, moved, waitingOf, Frame, At, Meant, went, halted}
-use Rattle.steps.proofs.StepLaws.{none-ahead, some-ahead}
+use Rattle.steps.proofs.StepLaws.{none-ahead, some-ahead, sound-ahead}
 use Rattle.steps.proofs.SkipLaws.{separators-m, comments-m}
 use Rattle.steps.proofs.NodeLaws.{rowsAt, rows-at, Turn, shuts, refuses, goes, turn-after, turn-last, loop-m}
 use Rattle.grammar.proofs.MeantDefinitions.{definition-m}
@@ -166,14 +170,14 @@ module _ (text : List ℕ) (short : length text ≤ 65536) where
   -- ---- the whole
 
   pub beginning-at : (t u : List ℕ) → At text 8 0 noParent (lent t u) bare (beginning text) t u (pos (between opening opening) [] (tokens text opening))
-  unfolding beginning lay rowsOf commentRowsOf sizes noteCounts owned
+  unfolding beginning opening lay rowsOf commentRowsOf sizes noteCounts owned
   beginning-at t u =
       let l = between opening opening in
       let st : State = record { lexer = opening; kind = 255; loc = l; last = l; next = 0; owned = 0; waiting = 0 } in
       let m = moved text st in
       record {
         last = m .last;
-        ahead = advance-ahead text short st opening-placed;
+        ahead = advance-ahead text short st opening-placed refl;
         next = m .next;
         nodes = refl;
         count = m .owned;
@@ -241,8 +245,20 @@ module _ (text : List ℕ) (short : length text ≤ 65536) where
   judged-means t u (went {a = ds} h) = fits-by t u ds h (ltb (room t) (length (nodeRows ds))) (ltb (room u) (length (notes ds))) refl refl
   judged-means t u halted = refl
 
-pub parsing-means : (text t u : List ℕ) → checked text ≡ C.Fine → parsing text t u ≡ reading text t u
-unfolding parsing reading outcome outcomeBy parsed
-parsing-means text t u e =
-    let short : length text ≤ 65536 = fine-means text e .0 in
-    rw e (judged-means text short t u (document-m text short (beginning-at text short t u)))
+  sound-means : {o : Out} {r : Res (List Definition)} {i : ℕ} (t u : List ℕ) → Meant (λ ds. At text i 0 noParent (lent t u) (forest ds)) o r
+      → unrecognized (cuts (drop (unscanned o) text)) (unscanned o) ≡ unrecognized (cuts text) 0
+  unfolding unscanned
+  sound-means t u (went h) = sound-ahead (h .ahead)
+  sound-means t u halted = refl
+
+  settled-means : {o : Out} (t u : List ℕ) → Meant (λ ds. At text 8 0 noParent (lent t u) (forest ds)) o (parsed text) → found (illFormed text) ≡ Nowhere
+      → (v : Option ℕ) → unrecognized (cuts text) 0 ≡ v → settled v o (length text) t u ≡ reading text t u
+  unfolding settled reading outcome outcomeBy found
+  settled-means t u m b (some p) e = read-unknown text t u p (unknown text short p b (ap found e))
+  settled-means t u m b none e = rw (fine text short b (ap found e)) (judged-means t u m)
+
+pub parsing-means : (text t u : List ℕ) → length text ≤ 65536 → found (illFormed text) ≡ Nowhere → parsing text t u ≡ reading text t u
+unfolding parsing parsed
+parsing-means text t u short b =
+    let m = document-m text short (beginning-at text short t u) in
+    settled-means text short t u m b _ (sym (sound-means text short t u m))

@@ -1,7 +1,8 @@
 -- The document and the whole reading in code.
 --     document-is           the document's loop, before its first turn (steps/proofs/LoopForms takes the turns)
 --     rest-is               a definition that was lent the unused rest of the table
---     parse-off, parse-on   the grammar's refusal, and what was read
+--     parse-unknown         22
+--     parse-judged          what the grammar finds
 --     read-long, read-ill, read-unknown   20, 21 and 22
 --     ill-small, unknown-small            their places are small
 -- Assumes nothing.
@@ -10,30 +11,30 @@ use mathlib.Core.Bool.{Bool, true, false, cond}
 use mathlib.Core.List.{List, [], _∷_, _++_, append-nil}
 use mathlib.Core.Option.{Option, some, none}
 use Prim.Native.Nat.{ℕ, zero, suc, _+_, _-_, _≤_}
-use lib.Dec.{ltb}
-use borrow.Author.Tests.{ltb-false}
 use native.Mathlib.Omega.{arith}
 use lib.ListN.{length, take, drop, replicate, length-drop, length-take, drop-of-length-le}
 use borrow.Rule.Slice.PartMut.{putMid}
 use Rattle.lexer.specs.declared.location.LOC.{LOC}
-use Rattle.lexer.specs.declared.Checked.{Checked}
 use Rattle.lexer.specs.declared.Checked.the-variants as C
 use Rattle.token.specs.Scan.{scan}
 use Rattle.token.specs.declared.Scan.{Scan}
 use Rattle.token.specs.declared.Scan.the-variants.{Miss, Hit}
 use Rattle.lexer.specs.Utf8.{width, sequences, sequence, illFrom, illFormed}
 use Rattle.lexer.specs.Cuts.{Cuts, cutAt, cutsFrom, cuts, unrecognized}
-use Rattle.lexer.specs.Check.{limit, verdict, checked}
+use Rattle.lexer.specs.Check.{checked}
+use Rattle.lexer.specs.Found.{found}
+use Rattle.lexer.specs.declared.Found.the-variants.{At, Nowhere}
 use Rattle.lexer.proofs.CutLaws.{part}
+use Rattle.lexer.proofs.CheckLaws.{found-at, found-none}
 use Rattle.ast.specs.Records.{cleared}
 use Rattle.parser.specs.declared.Answer.the-variants as A
 use Rattle.steps.specs.declared.state.State.{State}
 use Rattle.steps.specs.declared.state.Parsed.{Parsed}
 use Rattle.steps.specs.declared.state.Parsed.the-variants.{On, Refused}
 use Rattle.parser.specs.Read.{Reading, outcomeBy, outcome, answer, left, reading, told}
-use Rattle.steps.specs.Into.{Out, done, shows, restAt, loopIn, closesAt, most}
+use Rattle.steps.specs.Into.{Out, done, stop, shows, restAt, loopIn, closesAt, most}
 use Rattle.grammar.specs.Into.{definitionIn}
-use Rattle.reader.specs.Into.{inRest, restIn, betweenIn, overIn, documentIn, beginning, refusing, refusingAt, fits, judged, parsing}
+use Rattle.reader.specs.Into.{inRest, restIn, betweenIn, overIn, documentIn, beginning, refusing, refusingAt, judged, unscanned, settled, parsing}
 
 pub document-is : (text : List ℕ) (st : State) (t u : List ℕ) → documentIn text st t u ≡
     loopIn (closesAt 255) (betweenIn text) overIn (restIn text) 65537 st t u
@@ -62,19 +63,29 @@ refusing-same : (e p n : ℕ) (t u t′ u′ : List ℕ) → length t′ ≡ len
 unfolding refusing cleared
 refusing-same e p n t u t′ u′ h g = ap₂ (λ (x y : ℕ). told (A.Refused e p n) (replicate x 0) (replicate y 0)) h g
 
-module _ (text t u t₁ u₁ : List ℕ) (st : State) (a : Parsed) (h : st ≡ beginning text) (e : shows a t₁ u₁ ≡ documentIn text st t u) where
+judged-same : (o : Out) (len : ℕ) (t u t₁ u₁ : List ℕ) → length t₁ ≡ length t → length u₁ ≡ length u → judged o len t₁ u₁ ≡ judged o len t u
+unfolding judged refusingAt
+judged-same (done st t′ u′) len t u t₁ u₁ h g = refl
+judged-same (stop e l) len t u t₁ u₁ h g = refusing-same _ _ _ t u t₁ u₁ h g
+
+module _ (text t u t₁ u₁ : List ℕ) (st : State) (a : Parsed) (from : ℕ) (h : st ≡ beginning text) (e : shows a t₁ u₁ ≡ documentIn text st t u)
+    (f : from ≡ unscanned (shows a t₁ u₁)) (y : length t₁ ≡ length t) (z : length u₁ ≡ length u) where
   document : shows a t₁ u₁ ≡ documentIn text (beginning text) t u
   document = e ∙ ap (λ (x : State). documentIn text x t u) h
 
-  pub parse-off : (n : ℕ) (l : LOC) (r : Reading) → a ≡ Refused n l → length t₁ ≡ length t → length u₁ ≡ length u → r ≡ refusingAt n l (length text) t₁ u₁ → r ≡ parsing text t u
-  unfolding parsing judged shows refusingAt
-  parse-off n l r i y z q =
-      q ∙ refusing-same _ _ _ t u t₁ u₁ y z
-      ∙ ap (λ (x : Out). judged x (length text) t u) (sym (ap (λ (x : Parsed). shows x t₁ u₁) i) ∙ document)
+  parsed : (v : Option ℕ) → unrecognized (cuts (drop from text)) from ≡ v → settled v (shows a t₁ u₁) (length text) t u ≡ parsing text t u
+  unfolding parsing
+  parsed v g =
+      ap (λ (w : Option ℕ). settled w (shows a t₁ u₁) (length text) t u) (sym g ∙ ap (λ (i : ℕ). unrecognized (cuts (drop i text)) i) f)
+      ∙ ap (λ (o : Out). settled (unrecognized (cuts (drop (unscanned o) text)) (unscanned o)) o (length text) t u) document
 
-  pub parse-on : (st′ : State) (r : Reading) → a ≡ On st′ → r ≡ fits st′ t₁ u₁ → r ≡ parsing text t u
-  unfolding parsing judged shows
-  parse-on st′ r i q = q ∙ ap (λ (x : Out). judged x (length text) t u) (sym (ap (λ (x : Parsed). shows x t₁ u₁) i) ∙ document)
+  pub parse-unknown : (p : ℕ) (r : Reading) → found (unrecognized (cuts (drop from text)) from) ≡ At p → r ≡ refusing 22 p 0 t₁ u₁ → r ≡ parsing text t u
+  unfolding settled
+  parse-unknown p r g q = q ∙ refusing-same _ _ _ t u t₁ u₁ y z ∙ parsed (some p) (found-at _ p g)
+
+  pub parse-judged : (r : Reading) → found (unrecognized (cuts (drop from text)) from) ≡ Nowhere → r ≡ judged (shows a t₁ u₁) (length text) t₁ u₁ → r ≡ parsing text t u
+  unfolding settled
+  parse-judged r g q = q ∙ judged-same _ _ t u t₁ u₁ y z ∙ parsed none (found-none _ g)
 
 -- 20, 21, 22
 module _ (text t u : List ℕ) where
@@ -140,46 +151,10 @@ cut-inside [] n at p e = absurd (none≢some e)
 cut-inside (c ∷ w) n at p e = cut-step c w (cut-inside w) n at p e
 
 -- so they are numbers of 32 bits
-tag : Checked → ℕ
-tag C.Fine = 0
-tag C.TooLong = 1
-tag (C.IllFormed p) = 2
-tag (C.Unrecognized p) = 3
+pub ill-small : (t : List ℕ) (p : ℕ) → found (illFormed t) ≡ At p → p ≤ length t
+unfolding illFormed
+ill-small t p e = omega (arith, ill-inside t 0 0 p (found-at _ p e))
 
-place : Checked → ℕ
-place C.Fine = 0
-place C.TooLong = 0
-place (C.IllFormed p) = p
-place (C.Unrecognized p) = p
-
-clash : (x y : Checked) → (tag x ≡ tag y → ⊥) → x ≡ y → ⊥
-clash x y h e = h (ap tag e)
-
-ill-told : (o v : Option ℕ) (p : ℕ) → verdict o v ≡ C.IllFormed p → o ≡ some p
-unfolding verdict tag place
-ill-told (some q) v p e = ap some (ap place e)
-ill-told none (some q) p e = absurd (clash _ _ (λ (h : _≡_ {A = ℕ} 3 2). omega arith) e)
-ill-told none none p e = absurd (clash _ _ (λ (h : _≡_ {A = ℕ} 0 2). omega arith) e)
-
-unknown-told : (o v : Option ℕ) (p : ℕ) → verdict o v ≡ C.Unrecognized p → v ≡ some p
-unfolding verdict tag place
-unknown-told (some q) v p e = absurd (clash _ _ (λ (h : _≡_ {A = ℕ} 2 3). omega arith) e)
-unknown-told none (some q) p e = ap some (ap place e)
-unknown-told none none p e = absurd (clash _ _ (λ (h : _≡_ {A = ℕ} 0 3). omega arith) e)
-
-short-by : (b : Bool) (x y : Checked) → (tag y ≡ 1 → ⊥) → cond b C.TooLong x ≡ y → (b ≡ false) × (x ≡ y)
-unfolding tag
-short-by true x y h e = absurd (h (sym (ap tag e)))
-short-by false x y h e = (refl, e)
-
-pub ill-small : (t : List ℕ) (p : ℕ) → checked t ≡ C.IllFormed p → p ≤ 65536
-unfolding checked tag illFormed limit
-ill-small t p e =
-    let k = short-by (ltb limit (length t)) _ (C.IllFormed p) (λ (h : _≡_ {A = ℕ} 2 1). omega arith) e in
-    omega (arith, ltb-false 65536 (length t) (k .0), ill-inside t 0 0 p (ill-told _ _ p (k .1)))
-
-pub unknown-small : (t : List ℕ) (p : ℕ) → checked t ≡ C.Unrecognized p → p ≤ 65536
-unfolding checked tag cuts limit
-unknown-small t p e =
-    let k = short-by (ltb limit (length t)) _ (C.Unrecognized p) (λ (h : _≡_ {A = ℕ} 3 1). omega arith) e in
-    omega (arith, ltb-false 65536 (length t) (k .0), cut-inside t 0 0 p (unknown-told _ _ p (k .1)))
+pub unknown-small : (t : List ℕ) (from p : ℕ) → found (unrecognized (cuts (drop from t)) from) ≡ At p → p ≤ from + (length t - from)
+unfolding cuts
+unknown-small t from p e = omega (arith, cut-inside (drop from t) 0 from p (found-at _ p e), length-drop from t)

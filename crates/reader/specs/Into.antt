@@ -2,11 +2,13 @@
 -- means parser/specs/Read; nothing outside the crate has to believe it. Assumes nothing: these are definitions.
 use mathlib.Core.Bool.{true, false, cond}
 use mathlib.Core.List.{List, _++_}
+use mathlib.Core.Option.{Option, some, none}
 use Prim.Native.Nat.{ℕ, _*_, _-_}
 use lib.Dec.{eqb, ltb}
 use lib.ListN.{length, take, drop}
 use Rattle.lexer.specs.declared.location.LOC.{LOC}
 use Rattle.lexer.specs.Location.{between, opening}
+use Rattle.lexer.specs.Cuts.{cuts, unrecognized}
 use Rattle.ast.specs.Records.{width, room, cleared}
 use Rattle.parser.specs.Read.{Reading, told}
 use Rattle.parser.specs.declared.Answer.the-variants as A
@@ -60,5 +62,17 @@ unfoldable pub judged : Out → ℕ → List ℕ → List ℕ → Reading
 judged (done st t′ u′) len t u = fits st t′ u′
 judged (stop e l) len t u = refusingAt e l len t u
 
+-- from where on tokens are still to be looked for: behind what was read; from the start where the grammar refuses
+unfoldable pub unscanned : Out → ℕ
+unscanned (done st t u) = st .lexer .at
+unscanned (stop e l) = 0
+
+-- 22 comes before what the grammar finds
+unfoldable pub settled : Option ℕ → Out → ℕ → List ℕ → List ℕ → Reading
+settled (some p) o len t u = refusing 22 p 0 t u
+settled none o len t u = judged o len t u
+
 unfoldable pub parsing : List ℕ → List ℕ → List ℕ → Reading
-parsing text t u = judged (documentIn text (beginning text) t u) (length text) t u
+parsing text t u =
+    let o = documentIn text (beginning text) t u in
+    settled (unrecognized (cuts (drop (unscanned o) text)) (unscanned o)) o (length text) t u

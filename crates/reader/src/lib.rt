@@ -1,11 +1,12 @@
 // From a text to its definitions and both tables.
 ghost use mathlib.Core.Path.{_≡_};
-ghost use Prim.Native.Nat.{_≤_};
+ghost use mathlib.Core.List.{List};
+ghost use Prim.Native.Nat.{ℕ, _≤_};
 ghost use lib.ListN.{length};
 ghost use Rattle.parser.specs.Read.{reading, told};
-ghost use Rattle.steps.specs.Into.{Keeps, Lent, Reads, Still, restAt, wiped};
-ghost use Rattle.reader.specs.Into.{restIn, overIn, betweenIn, documentIn, beginning, refusing, ended, refusingAt, fits, parsing};
-use lexer::Checked;
+ghost use Rattle.steps.specs.Into.{Keeps, Lent, Reads, Still, restAt, shows, wiped};
+ghost use Rattle.reader.specs.Into.{restIn, overIn, betweenIn, documentIn, beginning, refusing, ended, refusingAt, fits, judged, unscanned, parsing};
+use lexer::Found;
 use lexer::location::LOC;
 use lexer::location::Lexer;
 use lexer::location::Span;
@@ -186,7 +187,30 @@ fn fit(state: State, nodes: &mut [u32], comments: &mut [u32]) -> Answer
     }
 }
 
-// The grammar over a text that passed 20, 21 and 22.
+// From where on tokens are still to be looked for: behind what was read; from the start where the grammar refuses.
+fn unscanned(parsed: Parsed) -> usize
+    ensures { λ r. ⌜ (r ≤ 4294967295) × ((t u : List ℕ) → r ≡ unscanned (shows parsed t u)) ⌝ }
+{
+    match parsed {
+        Parsed::Refused(_, _) => 0,
+        Parsed::On(state) => {
+            let lexer = state.lexer;
+            lexer.at as usize
+        }
+    }
+}
+
+// What the grammar finds.
+fn judge(parsed: Parsed, len: usize, nodes: &mut [u32], comments: &mut [u32]) -> Answer
+    ensures { λ r. ⌜ told r (now (nodes .exit)) (now (comments .exit)) ≡ judged (shows parsed (now (nodes .entry)) (now (comments .entry))) len (now (nodes .entry)) (now (comments .entry)) ⌝ }
+{
+    match parsed {
+        Parsed::Refused(number, loc) => refuse_at(number, loc, len, nodes, comments),
+        Parsed::On(state) => fit(state, nodes, comments),
+    }
+}
+
+// 22 and the grammar, in one pass where the text is accepted: a text that passed 20 and 21.
 fn parse(text: &[u8], nodes: &mut [u32], comments: &mut [u32]) -> Answer
     requires { ⌜ length (now text) ≤ 65536 ⌝ }
     ensures { λ r. ⌜ told r (now (nodes .exit)) (now (comments .exit)) ≡ parsing (now (text .entry)) (now (nodes .entry)) (now (comments .entry)) ⌝ }
@@ -194,20 +218,23 @@ fn parse(text: &[u8], nodes: &mut [u32], comments: &mut [u32]) -> Answer
     let class = lexer::table::CLASS;
     let trie = lexer::table::WORDS;
     let st = begin(&class, &trie, text);
-    match parse_document(&class, &trie, text, st, nodes, comments) {
-        Parsed::Refused(number, loc) => refuse_at(number, loc, text.len(), nodes, comments),
-        Parsed::On(state) => fit(state, nodes, comments),
+    let parsed = parse_document(&class, &trie, text, st, nodes, comments);
+    let from = unscanned(parsed);
+    if let Found::At(at) = lexer::unrecognized(&class, &trie, text, from) {
+        return refuse(22, at as u32, 0, nodes, comments);
     }
+    judge(parsed, text.len(), nodes, comments)
 }
 
 // Reads a text into a node table and a comment table.
 pub fn read(text: &[u8], nodes: &mut [u32], comments: &mut [u32]) -> Answer
     ensures { λ r. ⌜ told r (now (nodes .exit)) (now (comments .exit)) ≡ reading (now (text .entry)) (now (nodes .entry)) (now (comments .entry)) ⌝ }
 {
-    match lexer::check(text) {
-        Checked::TooLong => refuse(20, 0, 0, nodes, comments),
-        Checked::IllFormed(at) => refuse(21, at as u32, 0, nodes, comments),
-        Checked::Unrecognized(at) => refuse(22, at as u32, 0, nodes, comments),
-        Checked::Fine => parse(text, nodes, comments),
+    if lexer::LIMIT < text.len() {
+        return refuse(20, 0, 0, nodes, comments);
     }
+    if let Found::At(at) = lexer::utf8::ill_formed(text) {
+        return refuse(21, at as u32, 0, nodes, comments);
+    }
+    parse(text, nodes, comments)
 }

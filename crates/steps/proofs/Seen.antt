@@ -1,5 +1,6 @@
 -- The state and the tables of the code against the state of the meaning, and the relation of what both readers give. Here and in the laws that are
 -- built on this file, the code is its model, specs/Into, and the meaning is parser/specs/Definitions.
+--     Sound               no token starts where none starts in the whole text
 --     Ahead, First        the token ahead of the code is the first of the tokens left
 --     Frame, At           the state and both tables stand where a forest has been read from a frame on
 --     Meant               the code and the meaning both go on, with what Q says, or both refuse, with the same number and place
@@ -7,7 +8,7 @@
 --     advance-ahead       one token further
 --     small-bump, small-sum    the code's numbers are counted as they are
 -- Assumes nothing.
-use mathlib.Core.Path.{_≡_, refl}
+use mathlib.Core.Path.{_≡_, refl, sym, _∙_}
 use mathlib.Core.Bool.{Bool, true, false, not, cond}
 use mathlib.Core.List.{List, [], _∷_, _++_}
 use Prim.Native.Nat.{ℕ, suc, _+_, _*_, _-_, _≤_, _<_}
@@ -21,9 +22,10 @@ use Rattle.lexer.specs.declared.location.ParserToken.{ParserToken}
 use Rattle.lexer.specs.declared.location.Next.{Next}
 use Rattle.lexer.specs.declared.location.Next.the-variants as N
 use Rattle.lexer.specs.Location.{Placed}
+use Rattle.lexer.specs.Cuts.{cuts, unrecognized}
 use Rattle.lexer.specs.Tokens as L
 use Rattle.lexer.specs.Tokens.{Lexeme, tokens, lexemeOf}
-use Rattle.lexer.proofs.NextLaws.{next-placed, next-inside, tokens-on, tokens-end, tokens-unrecognized}
+use Rattle.lexer.proofs.NextLaws.{Stuck, next-placed, next-inside, unrecognized-on, tokens-on, tokens-end, tokens-unrecognized}
 use Rattle.ast.specs.Lists.{All}
 use Rattle.ast.specs.Tree.{Forest}
 use Rattle.ast.specs.Records.{sizes, rowsOf, owned, commentRowsOf}
@@ -53,10 +55,14 @@ pub record First (text : List ℕ) (k : ℕ) (l : LOC) (t : Lexeme) : Type 0 whe
   pub placed : l ≡ place t
   pub spelled : isIdAt text (place t) ≡ isId (bytes t)
 
+-- behind the lexer's offset no token starts at the same place as in the whole text, if there is one
+abbrev pub Sound : List ℕ → Lexer → Type 0
+Sound text x = Stuck text x ≡ unrecognized (cuts text) 0
+
 -- the tokens left, with the code's kind, place and lexer
 pub data Ahead (text : List ℕ) (k : ℕ) (l : LOC) (x : Lexer) : List Lexeme → Type 0 where
-  over : k ≡ 255 → Ahead text k l x []
-  on : {t : Lexeme} {ts : List Lexeme} → First text k l t → ts ≡ tokens text x → Placed x → Ahead text k l x (t ∷ ts)
+  over : k ≡ 255 → Sound text x → Ahead text k l x []
+  on : {t : Lexeme} {ts : List Lexeme} → First text k l t → ts ≡ tokens text x → Placed x → Sound text x → Ahead text k l x (t ∷ ts)
 
 abbrev pub AheadOf : List ℕ → State → List Lexeme → Type 0
 AheadOf text st ts = Ahead text (st .kind) (st .loc) (st .lexer) ts
@@ -78,19 +84,19 @@ module _ (text : List ℕ) (short : length text ≤ 65536) where
   unfolding lookAt
   look s h = rw (le-ltb 65536 (s .at) (h .below), le-ltb (s .at) (s .line) (h .lines), le-ltb (s .at) (s .origin) (h .line-begun))
 
-  ahead-by : (r : Next) (st : State) → Placed (st .lexer) → L.next text (st .lexer) ≡ r → AheadOf text (aheadOf r st) (tokens text (st .lexer))
+  ahead-by : (r : Next) (st : State) → Placed (st .lexer) → Sound text (st .lexer) → L.next text (st .lexer) ≡ r → AheadOf text (aheadOf r st) (tokens text (st .lexer))
   unfolding aheadOf kind place lexemeOf
-  ahead-by (N.On p s) st h e =
+  ahead-by (N.On p s) st h q e =
       let i = next-inside text (st .lexer) s p e in
       rw (tokens-on text (st .lexer) s p e)
       (on (record { coded = refl; placed = refl; spelled = spelled-at text p (omega (arith, i .1)) (omega (arith, i .2, i .3)) })
-      refl (next-placed text (st .lexer) s p h short e))
-  ahead-by N.End st h e = rw (tokens-end text (st .lexer) e) (over refl)
-  ahead-by (N.Unrecognized q) st h e = rw (tokens-unrecognized text (st .lexer) q e) (over refl)
+      refl (next-placed text (st .lexer) s p h short e) (sym (unrecognized-on text (st .lexer) s p e) ∙ q))
+  ahead-by N.End st h q e = rw (tokens-end text (st .lexer) e) (over refl q)
+  ahead-by (N.Unrecognized p) st h q e = rw (tokens-unrecognized text (st .lexer) p e) (over refl q)
 
-  pub advance-ahead : (st : State) → Placed (st .lexer) → AheadOf text (advanced text st) (tokens text (st .lexer))
+  pub advance-ahead : (st : State) → Placed (st .lexer) → Sound text (st .lexer) → AheadOf text (advanced text st) (tokens text (st .lexer))
   unfolding advanced
-  advance-ahead st h = rw (look (st .lexer) h) (ahead-by (L.next text (st .lexer)) st h refl)
+  advance-ahead st h q = rw (look (st .lexer) h) (ahead-by (L.next text (st .lexer)) st h q refl)
 
 moved-by : (r : Next) (st : State) → Moved st (aheadOf r st)
 unfolding aheadOf

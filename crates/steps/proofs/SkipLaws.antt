@@ -121,7 +121,7 @@ module _ (text : List ℕ) (short : length text ≤ 65536) (i b p : ℕ) (fr : F
     skips (suc n) st l [] h m = go (h .ahead)
       where
         go : AheadOf text st [] → At text i b p fr f (skipFrom text w (suc n) st) t u (pos l c [])
-        go (ended e) = let z : passes (st .kind) w ≡ false = ap (λ (n : ℕ). passes n w) e ∙ test .fails in rw z h
+        go (ended e q) = let z : passes (st .kind) w ≡ false = ap (λ (n : ℕ). passes n w) e ∙ test .fails in rw z h
     skips (suc n) st l (tok ∷ ts) h m = skip-on n (skips n) st l tok ts h (omega arith) (among (kind tok) ks) refl
 
   -- ---- comments that wait
@@ -146,13 +146,13 @@ module _ (text : List ℕ) (short : length text ≤ 65536) (i b p : ℕ) (fr : F
       → AheadOf text st (tok ∷ ts)
       → At text i b p fr f (advanced text (waits st)) t (putWaiting st u) (pos (place tok) (c ++ tok ∷ []) ts)
   unfolding waits putWaiting
-  waited st u l c tok ts h (on a e x) =
+  waited st u l c tok ts h (on a e x q) =
       let m = moved text (waits st) in
       let n = st .owned + st .waiting in
       let xs = fr .owned ++ commentRowsOf f (fr .number) in
       record {
         last = m .last ∙ a .placed;
-        ahead = rw (← e) at (advance-ahead text short (waits st) x);
+        ahead = rw (← e) at (advance-ahead text short (waits st) x q);
         next = m .next ∙ h .next;
         nodes = h .nodes;
         count = m .owned ∙ h .count;
@@ -207,11 +207,11 @@ module _ (text : List ℕ) (short : length text ≤ 65536) (i b p : ℕ) (fr : F
     none-waits : (v : Bool) (n : ℕ) (st : State) (u : List ℕ) (l : LOC) (c : List Lexeme) → At text i b p fr f st t u (pos l c []) → AheadOf text st []
         → Meant (λ (a : Unit {0}). At text i b p fr f) (skipCommentsFrom text v (suc n) st t u) (ok tt (pos l c []))
     unfolding skipCommentsFrom
-    none-waits true n st u l c h (ended e) =
+    none-waits true n st u l c h (ended e q) =
         let y : isComment (st .kind) ≡ false = ap isComment e ∙ comment-test .fails in
         let z : isSeparator (st .kind) ≡ false = ap isSeparator e ∙ separator-test .fails in
         rw (y, z) (went h)
-    none-waits false n st u l c h (ended e) = let y : isComment (st .kind) ≡ false = ap isComment e ∙ comment-test .fails in rw y (went h)
+    none-waits false n st u l c h (ended e q) = let y : isComment (st .kind) ≡ false = ap isComment e ∙ comment-test .fails in rw y (went h)
 
     all-wait : (n : ℕ) → Waits n
     unfolding Waits pass

@@ -25,6 +25,7 @@ use Rattle.steps.specs.Into.{Out, done, refused, startAt, advanced, take
 use Rattle.parser.proofs.KindLaws.{Tests, code-some, one-test}
 use Rattle.steps.proofs.Seen.{
   First,
+  Sound,
   Ahead,
   over,
   on,
@@ -45,20 +46,24 @@ use Rattle.steps.proofs.Seen.{
 -- ---- the token ahead
 
 pub none-ahead : {text : List ℕ} {k : ℕ} {l : LOC} {x : Lexer} → Ahead text k l x [] → eqb k 255 ≡ true
-none-ahead (over e) = eq-eqb _ _ e
+none-ahead (over e q) = eq-eqb _ _ e
 
 pub some-ahead : {text : List ℕ} {k : ℕ} {l : LOC} {x : Lexer} {t : Lexeme} {ts : List Lexeme} → Ahead text k l x (t ∷ ts) → eqb k 255 ≡ false
-some-ahead {t = t} (on h e x) = rw (h .coded) (code-some (kind t))
+some-ahead {t = t} (on h e x q) = rw (h .coded) (code-some (kind t))
 
 pub first-ahead : {text : List ℕ} {k : ℕ} {l : LOC} {x : Lexer} {t : Lexeme} {ts : List Lexeme} → Ahead text k l x (t ∷ ts) → First text k l t
-first-ahead (on h e x) = h
+first-ahead (on h e x q) = h
+
+pub sound-ahead : {text : List ℕ} {k : ℕ} {l : LOC} {x : Lexer} {ts : List Lexeme} → Ahead text k l x ts → Sound text x
+sound-ahead (over e q) = q
+sound-ahead (on h e x q) = q
 
 -- a test of the code's kind is the test of the token's
 pub tested : {g : ℕ → Bool} {ks : List Token} {text : List ℕ} {k : ℕ} {l : LOC} {x : Lexer} (s : St) → Tests g ks → Ahead text k l x (leftOf s)
     → g k ≡ peek ks s
 unfolding peek
-tested {g = g} (pos l c []) h (over e) = ap g e ∙ h .fails
-tested {g = g} (pos l c (t ∷ ts)) h (on a e x) = ap g (a .coded) ∙ h .agrees (kind t)
+tested {g = g} (pos l c []) h (over e q) = ap g e ∙ h .fails
+tested {g = g} (pos l c (t ∷ ts)) h (on a e x q) = ap g (a .coded) ∙ h .agrees (kind t)
 
 -- ---- one token
 
@@ -92,11 +97,11 @@ refuse-at-m e st tok s h =
 module _ (text : List ℕ) (short : length text ≤ 65536) {i b p : ℕ} {fr : Frame} {f : Forest} {st : State} {t u : List ℕ} where
   stepped : {l : LOC} {c ts : List Lexeme} {tok : Lexeme} → At text i b p fr f st t u (pos l c (tok ∷ ts)) → AheadOf text st (tok ∷ ts)
       → At text (suc (suc i)) b p fr f (advanced text st) t u (pos (place tok) c ts)
-  stepped h (on a e x) =
+  stepped h (on a e x q) =
       let m = moved text st in
       record {
         last = m .last ∙ a .placed;
-        ahead = rw (← e) at (advance-ahead text short st x);
+        ahead = rw (← e) at (advance-ahead text short st x q);
         next = m .next ∙ h .next;
         nodes = h .nodes;
         count = m .owned ∙ h .count;

@@ -13,13 +13,13 @@ use Rattle.lexer.proofs.unrecognized.Statement.{statement}
 use Rattle.lexer.proofs.unrecognized.Tie as tie
 
 abbrev Inv-loop : tie.InvT-loop
-Inv-loop class trie text at₀ at = (at ≤ length text) × (unrecognized (cuts text) 0 ≡ unrecognized (cuts (drop at text)) at)
+Inv-loop class trie text from at₀ at = unrecognized (cuts (drop from text)) from ≡ unrecognized (cuts (drop at text)) at
 
 abbrev μ-loop : tie.MeasureT-loop
-μ-loop class trie text at₀ at = length text - at
+μ-loop class trie text from at₀ at = length text - at
 
 loop-holds : tie.Need-loop-holds Inv-loop μ-loop
-loop-holds c = (omega arith, refl)
+loop-holds c = refl
 
 scan-token-requires : tie.Need-scan-token-requires Inv-loop μ-loop
 scan-token-requires c κs = let a = c .before .before .before .before in (a .pre .0, a .pre .1)
@@ -30,7 +30,7 @@ returns c =
     let s = c .before .before in
     let l = s .before .before .before in
     let t = l .before .before .args .text .now in
-    sym (ap found (l .loop .inv .1 ∙ unrecognized-miss t (l .loop .at) (s .before .before .loop-test .taken) (ap scan (sym (part t (l .loop .at))) ∙ sym (s .scan-token .ensures) ∙ c .enum-told .given .1)))
+    sym (ap found (l .loop .inv ∙ unrecognized-miss t (l .loop .at) (s .before .before .loop-test .taken) (ap scan (sym (part t (l .loop .at))) ∙ sym (s .scan-token .ensures) ∙ c .enum-told .given .1)))
 
 -- the token that was found
 hit : (c : tie.After-known-told Inv-loop μ-loop)
@@ -60,11 +60,11 @@ loop-less c = omega (arith, fits c .0, fits c .1)
 loop-again : tie.Need-loop-again Inv-loop μ-loop
 loop-again c =
     let l = c .before .before .before .before .before .before in
-    (fits c .1, l .loop .inv .1 ∙ unrecognized-hit (l .before .before .args .text .now) (l .loop .at) _ _ (hit c))
+    l .loop .inv ∙ unrecognized-hit (l .before .before .args .text .now) (l .loop .at) _ _ (hit c)
 
 returns-2 : tie.Need-returns-2 Inv-loop μ-loop
 unfolding found
-returns-2 c = sym (ap found (c .before .loop .inv .1 ∙ unrecognized-end _ (c .before .loop .at) (c .loop-test .left)))
+returns-2 c = sym (ap found (c .before .loop .inv ∙ unrecognized-end _ (c .before .loop .at) (c .loop-test .left)))
 
 pub unrecognized-spec : {M : Type 1} → statement M
 unrecognized-spec =

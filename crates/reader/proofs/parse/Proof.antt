@@ -1,7 +1,8 @@
 -- `reader::parse` meets its contract. Assumes nothing.
-use mathlib.Core.Path.{_≡_, refl, sym, ap, ap₂, _∙_}
-use Rattle.reader.proofs.Whole.{parse-off, parse-on}
+use mathlib.Core.Path.{refl, sym, _∙_}
+use native.Mathlib.Omega.{arith}
 use Rattle.token.specs.Tables.{classes, trie}
+use Rattle.reader.proofs.Whole.{parse-unknown, parse-judged, unknown-small}
 use borrow.Author.Needs.{needs}
 use Rattle.reader.proofs.parse.Statement.{statement}
 use Rattle.reader.proofs.parse.Tie as tie
@@ -14,11 +15,25 @@ parse-document-requires : tie.Need-parse-document-requires
 unfolding classes trie
 parse-document-requires c κs = record { classed = refl; spelled = refl; short = c .before .before .before .before .before .before .before .before .before .before .pre }
 
+unrecognized-requires : tie.Need-unrecognized-requires
+unfolding classes trie
+unrecognized-requires c κs = (refl, refl)
+
+cast-refuse : tie.Need-cast-refuse
+cast-refuse c =
+    let a = c .before .before .before .before .before .before .before .before .before .before .before .before .before .before .before .before .before .before .before .before .before .before in
+    let u = c .before .before .before .before .before .before .unscanned in
+    omega (arith, unknown-small (a .args .text .now) (u .result) _ (sym (c .before .before .before .unrecognized .ensures) ∙ c .before .at .given .1), u .ensures .0, a .pre)
+
 returns : tie.Need-returns
-returns c = parse-off _ _ _ _ _ _ _ (c .before .before .before .before .before .before .before .before .before .before .before .before .before .before .before .before .before .before .before .begin .ensures) (c .before .before .before .before .before .before .before .before .before .before .before .before .before .before .parse-document .ensures) _ _ _ (c .before .before .before .before .before .before .before .before .number .given .1) (c .before .before .before .before .before .before .before .before .before .before .before .before .before .before .parse-document .kept .1 .1 .1 .1 .0) (c .before .before .before .before .before .before .before .before .before .before .before .before .before .before .parse-document .kept .1 .1 .1 .1 .1 .0) (c .before .before .before .before .refuse-at .ensures)
+returns c =
+    parse-unknown _ _ _ _ _ _ _ _ (c .before .before .before .before .before .before .before .before .before .before .before .before .before .before .before .before .before .before .before .before .before .before .before .begin .ensures) (c .before .before .before .before .before .before .before .before .before .before .before .before .before .before .before .before .before .before .parse-document .ensures) (c .before .before .before .before .before .before .before .before .before .before .before .before .before .unscanned .ensures .1 _ _) (c .before .before .before .before .before .before .before .before .before .before .before .before .before .before .before .before .before .before .parse-document .kept .1 .1 .1 .1 .0) (c .before .before .before .before .before .before .before .before .before .before .before .before .before .before .before .before .before .before .parse-document .kept .1 .1 .1 .1 .1 .0)
+    _ _ (sym (c .before .before .before .before .before .before .before .before .before .before .unrecognized .ensures) ∙ c .before .before .before .before .before .before .before .before .at .given .1) (c .before .before .before .before .refuse .ensures)
 
 returns-2 : tie.Need-returns-2
-returns-2 c = parse-on _ _ _ _ _ _ _ (c .before .before .before .before .before .before .before .before .before .before .before .before .before .before .before .before .before .before .before .begin .ensures) (c .before .before .before .before .before .before .before .before .before .before .before .before .before .before .parse-document .ensures) _ _ (c .before .before .before .before .before .before .before .before .state .given .1) (c .before .before .before .before .fit .ensures)
+returns-2 c =
+    parse-judged _ _ _ _ _ _ _ _ (c .before .before .before .before .before .before .before .before .before .before .before .before .before .before .before .before .before .before .before .before .before .before .begin .ensures) (c .before .before .before .before .before .before .before .before .before .before .before .before .before .before .before .before .before .parse-document .ensures) (c .before .before .before .before .before .before .before .before .before .before .before .before .unscanned .ensures .1 _ _) (c .before .before .before .before .before .before .before .before .before .before .before .before .before .before .before .before .before .parse-document .kept .1 .1 .1 .1 .0) (c .before .before .before .before .before .before .before .before .before .before .before .before .before .before .before .before .before .parse-document .kept .1 .1 .1 .1 .1 .0)
+    _ (sym (c .before .before .before .before .before .before .before .before .before .unrecognized .ensures) ∙ c .before .before .before .before .before .before .before .enum-told .given .1) (c .before .before .before .before .judge .ensures)
 
 pub parse-spec : {M : Type 1} → statement M
 parse-spec =
@@ -26,13 +41,16 @@ parse-spec =
     (tie.spec
     begin-requires
     parse-document-requires
-    (λ c. search needs)
     (λ c κs. search needs)
+    unrecognized-requires
     (λ c. search needs)
+    cast-refuse
     (λ c κs. search needs)
     (λ c. search needs)
     (λ c. search needs)
     returns
+    (λ c. search needs)
+    (λ c κs. search needs)
     (λ c. search needs)
     (λ c. search needs)
     returns-2)
