@@ -12,7 +12,6 @@ use native.Mathlib.Omega.{arith}
 use lib.Dec.{eqb}
 use lib.ListN.{replicate}
 use Rattle.token.specs.Regex.{bytes as ascii}
-use Rattle.token.specs.declared.Token.the-variants as Tok
 use Rattle.lexer.specs.declared.location.LOC.{LOC}
 use Rattle.lexer.specs.Tokens.{Lexeme}
 use Rattle.ast.specs.Lists.{All, acons}
