@@ -57,11 +57,11 @@ use Rattle.writer.specs.declared.Printed.the-variants.{Accepted, Refused}
 use Rattle.writer.specs.Write.{widest, outcomeAt, fitted, answer, left, written, printOf, Printing, told, printing}
 use Rattle.cursor.specs.declared.Cursor.{Cursor}
 use Rattle.cursor.specs.Onto.{Reached, reached}
-use Rattle.document.specs.Onto.{documentOut}
+use Rattle.write_definitions.specs.Onto.{documentOut}
 use Rattle.printer.specs.Onto.{opening, refusing, fits, ended, writing, byAnswer, byReading, all}
-use Rattle.document.proofs.Ahead.{Rows, under, unders, ownedBefore, noted, noteds, Ahead, Fits, Over, Got, got, Job, At}
-use Rattle.document.proofs.PrintedLeaves.{Good}
-use Rattle.document.proofs.PrintedDefinitions.{document-printed}
+use Rattle.write_fields.proofs.Ahead.{Rows, under, unders, ownedBefore, noted, noteds, Ahead, Fits, Over, Got, got, Job, At}
+use Rattle.write_fields.proofs.PrintedLeaves.{Good}
+use Rattle.write_definitions.proofs.PrintedDefinitions.{document-printed}
 
 -- ---- rows
 

@@ -14,7 +14,7 @@ use Rattle.parser.specs.Read.{Reading, reading, told as read-told}
 use Rattle.writer.specs.Write.{Printing}
 use Rattle.cursor.specs.declared.Cursor.{Cursor}
 use Rattle.cursor.specs.Onto.{Reached, reached}
-use Rattle.document.specs.Onto.{documentOut}
+use Rattle.write_definitions.specs.Onto.{documentOut}
 use Rattle.printer.specs.Onto.{opening, refusing, fits, ended, writing, byAnswer, byReading, all}
 
 pub written-is : (text : List ℕ) (indent n c : ℕ) (t u o o′ : List ℕ) (p : Cursor) (r : Printing)

@@ -14,7 +14,7 @@ use Rattle.writer.specs.declared.Printed.the-variants.{Accepted, Refused}
 use Rattle.writer.specs.Write.{Printing, told}
 use Rattle.cursor.specs.declared.Cursor.{Cursor}
 use Rattle.cursor.specs.Onto.{Reached, reached, then}
-use Rattle.document.specs.Onto.{documentOut}
+use Rattle.write_definitions.specs.Onto.{documentOut}
 
 unfoldable pub opening : Cursor
 opening = record { node = 0; comment = 0; length = 0 }

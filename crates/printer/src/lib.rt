@@ -92,7 +92,7 @@ fn write(
         comment: 0,
         length: 0,
     };
-    let behind = document::write_document(text, nodes, n, comments, c, out, at, indent);
+    let behind = write_definitions::write_document(text, nodes, n, comments, c, out, at, indent);
     fit(n, c, behind.length, nodes, comments, out)
 }
 

@@ -1,0 +1,4 @@
+pub mod Shapes
+pub mod Rounds
+pub mod PrintedFunctions
+pub mod PrintedDefinitions

@@ -1,0 +1,404 @@
+// The print of functions, enum members and definitions: rico's writer/document.rs.
+ghost use Rattle.cursor.specs.Onto.{Writes};
+ghost use Rattle.write_definitions.specs.Onto.{throwsOut, onewayOut, functionTailOut, functionOut, memberOut, oneOut, membersFrom, bodyOut, extendsOut, keywordOut, namespaceOut, constOut, lineOut, blockOut, definitionOut, documentOut};
+use cursor::Cursor;
+
+fn write_throws(
+    text: &[u8],
+    nodes: &[u32],
+    count: u32,
+    comments: &[u32],
+    total: u32,
+    out: &mut [u8],
+    at: Cursor,
+    flags: u32,
+) -> Cursor
+    ensures { λ r. ⌜ Writes (throwsOut (now (text .entry)) (now (nodes .entry)) count (now (comments .entry)) total flags) at r (now (out .entry)) (now (out .exit)) ⌝ }
+{
+    if flags < 8 {
+        return at;
+    }
+    let opened = cursor::put(out, at, b" throws (");
+    let inner = write_fields::write_params(text, nodes, count, comments, total, out, opened, true);
+    cursor::put(out, inner, b")")
+}
+
+fn write_oneway(out: &mut [u8], at: Cursor, flags: u32) -> Cursor
+    ensures { λ r. ⌜ Writes (onewayOut flags) at r (now (out .entry)) (now (out .exit)) ⌝ }
+{
+    if flags == 4 {
+        return cursor::put(out, at, b"oneway ");
+    }
+    if flags == 12 {
+        return cursor::put(out, at, b"oneway ");
+    }
+    at
+}
+
+// behind the name of a function
+fn write_function_tail(
+    text: &[u8],
+    nodes: &[u32],
+    count: u32,
+    comments: &[u32],
+    total: u32,
+    out: &mut [u8],
+    at: Cursor,
+    owner: u32,
+    flags: u32,
+) -> Cursor
+    ensures { λ r. ⌜ Writes (functionTailOut (now (text .entry)) (now (nodes .entry)) count (now (comments .entry)) total owner flags) at r (now (out .entry)) (now (out .exit)) ⌝ }
+{
+    let opened = cursor::put(out, at, b"(");
+    let params = write_fields::write_params(
+        text,
+        nodes,
+        count,
+        comments,
+        total,
+        out,
+        opened,
+        false,
+    );
+    let closed = cursor::put(out, params, b")");
+    let thrown = write_throws(text, nodes, count, comments, total, out, closed, flags);
+    let annotated = write_fields::write_annotations(text, nodes, count, out, thrown, owner);
+    cursor::put(out, annotated, b"\n")
+}
+
+// write_function
+fn write_function(
+    text: &[u8],
+    nodes: &[u32],
+    count: u32,
+    comments: &[u32],
+    total: u32,
+    out: &mut [u8],
+    at: Cursor,
+    indent: u32,
+) -> Cursor
+    ensures { λ r. ⌜ Writes (functionOut (now (text .entry)) (now (nodes .entry)) count (now (comments .entry)) total indent) at r (now (out .entry)) (now (out .exit)) ⌝ }
+{
+    let noted = cursor::put_comments(text, comments, total, out, at, at.node, indent);
+    let spaced = cursor::put_spaces(out, noted, indent);
+    let flags = cursor::number_at(nodes, at.node, 2);
+    let oneway = write_oneway(out, cursor::pass_node(spaced), flags);
+    let named = write_fields::write_typed_name(text, nodes, count, out, oneway);
+    write_function_tail(
+        text,
+        nodes,
+        count,
+        comments,
+        total,
+        out,
+        named,
+        at.node,
+        flags,
+    )
+}
+
+// the members of write_enum
+fn write_member(
+    text: &[u8],
+    nodes: &[u32],
+    count: u32,
+    comments: &[u32],
+    total: u32,
+    out: &mut [u8],
+    at: Cursor,
+    indent: u32,
+) -> Cursor
+    ensures { λ r. ⌜ Writes (memberOut (now (text .entry)) (now (nodes .entry)) count (now (comments .entry)) total indent) at r (now (out .entry)) (now (out .exit)) ⌝ }
+{
+    let noted = cursor::put_comments(text, comments, total, out, at, at.node, indent);
+    let spaced = cursor::put_spaces(out, noted, indent);
+    let named = cursor::put_token(text, nodes, out, cursor::pass_node(spaced));
+    let value = write_fields::write_initializer(text, nodes, count, out, named, at.node);
+    let annotated = write_fields::write_annotations(text, nodes, count, out, value, at.node);
+    cursor::put(out, annotated, b",\n")
+}
+
+// a member, by its kind: 11 function, 12 field, 13 enum member
+fn write_one(
+    text: &[u8],
+    nodes: &[u32],
+    count: u32,
+    comments: &[u32],
+    total: u32,
+    out: &mut [u8],
+    at: Cursor,
+    indent: u32,
+    kind: u32,
+) -> Cursor
+    ensures { λ r. ⌜ Writes (oneOut (now (text .entry)) (now (nodes .entry)) count (now (comments .entry)) total indent kind) at r (now (out .entry)) (now (out .exit)) ⌝ }
+{
+    if kind == 11 {
+        return write_function(text, nodes, count, comments, total, out, at, indent);
+    }
+    if kind == 12 {
+        return write_fields::write_field(text, nodes, count, comments, total, out, at, indent);
+    }
+    write_member(text, nodes, count, comments, total, out, at, indent)
+}
+
+fn write_members(
+    text: &[u8],
+    nodes: &[u32],
+    count: u32,
+    comments: &[u32],
+    total: u32,
+    out: &mut [u8],
+    at: Cursor,
+    indent: u32,
+    kind: u32,
+) -> Cursor
+    ensures { λ r. ⌜ Writes (membersFrom (now (text .entry)) (now (nodes .entry)) count (now (comments .entry)) total indent kind count) at r (now (out .entry)) (now (out .exit)) ⌝ }
+{
+    let mut now = at;
+    let mut left = count;
+    while 0 < left {
+        if cursor::kind_at(nodes, count, now.node) != kind {
+            return now;
+        }
+        now = write_one(text, nodes, count, comments, total, out, now, indent, kind);
+        left -= 1;
+    }
+    now
+}
+
+// ` {`, the members each on its lines, `}`, annotations
+fn write_body(
+    text: &[u8],
+    nodes: &[u32],
+    count: u32,
+    comments: &[u32],
+    total: u32,
+    out: &mut [u8],
+    at: Cursor,
+    indent: u32,
+    owner: u32,
+    kind: u32,
+) -> Cursor
+    ensures { λ r. ⌜ Writes (bodyOut (now (text .entry)) (now (nodes .entry)) count (now (comments .entry)) total indent owner kind) at r (now (out .entry)) (now (out .exit)) ⌝ }
+{
+    let opened = cursor::put(out, at, b" {\n");
+    let members = write_members(
+        text,
+        nodes,
+        count,
+        comments,
+        total,
+        out,
+        opened,
+        indent,
+        kind,
+    );
+    let closed = cursor::put(out, members, b"}");
+    let annotated = write_fields::write_annotations(text, nodes, count, out, closed, owner);
+    cursor::put(out, annotated, b"\n")
+}
+
+fn write_extends(text: &[u8], nodes: &[u32], count: u32, out: &mut [u8], at: Cursor) -> Cursor
+    ensures { λ r. ⌜ Writes (extendsOut (now (text .entry)) (now (nodes .entry)) count) at r (now (out .entry)) (now (out .exit)) ⌝ }
+{
+    if cursor::kind_at(nodes, count, at.node) != 16 {
+        return at;
+    }
+    let extends = cursor::put(out, at, b" extends ");
+    cursor::put_token(text, nodes, out, extends)
+}
+
+fn put_keyword(out: &mut [u8], at: Cursor, kind: u32) -> Cursor
+    ensures { λ r. ⌜ Writes (keywordOut kind) at r (now (out .entry)) (now (out .exit)) ⌝ }
+{
+    if kind == 1 {
+        return cursor::put(out, at, b"include ");
+    }
+    if kind == 2 {
+        return cursor::put(out, at, b"cpp_include ");
+    }
+    if kind == 3 {
+        return cursor::put(out, at, b"namespace ");
+    }
+    if kind == 4 {
+        return cursor::put(out, at, b"const ");
+    }
+    if kind == 5 {
+        return cursor::put(out, at, b"typedef ");
+    }
+    if kind == 6 {
+        return cursor::put(out, at, b"enum ");
+    }
+    if kind == 7 {
+        return cursor::put(out, at, b"struct ");
+    }
+    if kind == 8 {
+        return cursor::put(out, at, b"union ");
+    }
+    if kind == 9 {
+        return cursor::put(out, at, b"exception ");
+    }
+    cursor::put(out, at, b"service ")
+}
+
+// namespace, behind its keyword
+fn write_namespace(text: &[u8], nodes: &[u32], out: &mut [u8], at: Cursor) -> Cursor
+    ensures { λ r. ⌜ Writes (namespaceOut (now (text .entry)) (now (nodes .entry))) at r (now (out .entry)) (now (out .exit)) ⌝ }
+{
+    let scope = cursor::put_token(text, nodes, out, at);
+    let parted = cursor::put(out, scope, b" ");
+    let named = cursor::put_token(text, nodes, out, parted);
+    cursor::put(out, named, b"\n")
+}
+
+// const, behind its keyword
+fn write_const(text: &[u8], nodes: &[u32], count: u32, out: &mut [u8], at: Cursor) -> Cursor
+    ensures { λ r. ⌜ Writes (constOut (now (text .entry)) (now (nodes .entry)) count) at r (now (out .entry)) (now (out .exit)) ⌝ }
+{
+    let named = write_fields::write_typed_name(text, nodes, count, out, at);
+    let equals = cursor::put(out, named, b" = ");
+    let value = write_fields::write_value(text, nodes, count, out, equals, write_fields::NESTING);
+    cursor::put(out, value, b"\n")
+}
+
+// a definition of one line, behind its keyword
+fn write_line(
+    text: &[u8],
+    nodes: &[u32],
+    count: u32,
+    out: &mut [u8],
+    at: Cursor,
+    kind: u32,
+) -> Cursor
+    ensures { λ r. ⌜ Writes (lineOut (now (text .entry)) (now (nodes .entry)) count kind) at r (now (out .entry)) (now (out .exit)) ⌝ }
+{
+    if kind < 3 {
+        let named = cursor::put_token(text, nodes, out, at);
+        return cursor::put(out, named, b"\n");
+    }
+    if kind == 3 {
+        return write_namespace(text, nodes, out, at);
+    }
+    if kind == 4 {
+        return write_const(text, nodes, count, out, at);
+    }
+    let typed = write_fields::write_typed_name(text, nodes, count, out, at);
+    cursor::put(out, typed, b"\n")
+}
+
+// a definition with a body, behind its keyword
+fn write_block(
+    text: &[u8],
+    nodes: &[u32],
+    count: u32,
+    comments: &[u32],
+    total: u32,
+    out: &mut [u8],
+    at: Cursor,
+    indent: u32,
+    owner: u32,
+    kind: u32,
+) -> Cursor
+    ensures { λ r. ⌜ Writes (blockOut (now (text .entry)) (now (nodes .entry)) count (now (comments .entry)) total indent owner kind) at r (now (out .entry)) (now (out .exit)) ⌝ }
+{
+    let named = cursor::put_token(text, nodes, out, at);
+    if kind == 6 {
+        return write_body(
+            text,
+            nodes,
+            count,
+            comments,
+            total,
+            out,
+            named,
+            indent,
+            owner,
+            13,
+        );
+    }
+    if kind == 10 {
+        let extended = write_extends(text, nodes, count, out, named);
+        return write_body(
+            text,
+            nodes,
+            count,
+            comments,
+            total,
+            out,
+            extended,
+            indent,
+            owner,
+            11,
+        );
+    }
+    write_body(
+        text,
+        nodes,
+        count,
+        comments,
+        total,
+        out,
+        named,
+        indent,
+        owner,
+        12,
+    )
+}
+
+// a definition
+fn write_definition(
+    text: &[u8],
+    nodes: &[u32],
+    count: u32,
+    comments: &[u32],
+    total: u32,
+    out: &mut [u8],
+    at: Cursor,
+    indent: u32,
+) -> Cursor
+    ensures { λ r. ⌜ Writes (definitionOut (now (text .entry)) (now (nodes .entry)) count (now (comments .entry)) total indent) at r (now (out .entry)) (now (out .exit)) ⌝ }
+{
+    let kind = cursor::kind_at(nodes, count, at.node);
+    let noted = cursor::put_comments(text, comments, total, out, at, at.node, 0);
+    let word = put_keyword(out, cursor::pass_node(noted), kind);
+    if kind < 6 {
+        return write_line(text, nodes, count, out, word, kind);
+    }
+    write_block(
+        text,
+        nodes,
+        count,
+        comments,
+        total,
+        out,
+        word,
+        indent,
+        at.node,
+        kind,
+    )
+}
+
+// all definitions
+pub fn write_document(
+    text: &[u8],
+    nodes: &[u32],
+    count: u32,
+    comments: &[u32],
+    total: u32,
+    out: &mut [u8],
+    at: Cursor,
+    indent: u32,
+) -> Cursor
+    ensures { λ r. ⌜ Writes (documentOut (now (text .entry)) (now (nodes .entry)) count (now (comments .entry)) total indent) at r (now (out .entry)) (now (out .exit)) ⌝ }
+{
+    let mut now = at;
+    let mut left = count;
+    while 0 < left {
+        if count <= now.node {
+            return now;
+        }
+        now = write_definition(text, nodes, count, comments, total, out, now, indent);
+        left -= 1;
+    }
+    now
+}
