@@ -52,7 +52,7 @@ use Rattle.steps.proofs.Seen.{advance-ahead, moved, waitingOf, Frame, At, Meant
 use Rattle.steps.proofs.StepLaws.{none-ahead, some-ahead, sound-ahead}
 use Rattle.steps.proofs.SkipLaws.{separators-m, comments-m}
 use Rattle.steps.proofs.NodeLaws.{rowsAt, rows-at, Turn, shuts, refuses, goes, turn-after, turn-last, loop-m}
-use Rattle.grammar.proofs.MeantDefinitions.{definition-m}
+use Rattle.parse_definitions.proofs.MeantDefinitions.{definition-m}
 
 -- ---- a definition in the rest of the table
 

@@ -33,7 +33,7 @@ use Rattle.steps.specs.declared.state.Parsed.{Parsed}
 use Rattle.steps.specs.declared.state.Parsed.the-variants.{On, Refused}
 use Rattle.parser.specs.Read.{Reading, outcomeBy, outcome, answer, left, reading, told}
 use Rattle.steps.specs.Into.{Out, done, stop, shows, restAt, loopIn, closesAt, most}
-use Rattle.grammar.specs.Into.{definitionIn}
+use Rattle.parse_definitions.specs.Into.{definitionIn}
 use Rattle.reader.specs.Into.{inRest, restIn, betweenIn, overIn, documentIn, beginning, refusing, refusingAt, judged, unscanned, settled, parsing}
 
 pub document-is : (text : List ℕ) (st : State) (t u : List ℕ) → documentIn text st t u ≡

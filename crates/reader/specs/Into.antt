@@ -14,7 +14,7 @@ use Rattle.parser.specs.Read.{Reading, told}
 use Rattle.parser.specs.declared.Answer.the-variants as A
 use Rattle.steps.specs.declared.state.State.{State}
 use Rattle.steps.specs.Into.{Out, M, _⨟_, restAt, wiped, advanced, refused, most, skipIn, skipCommentsIn, loopIn, closesAt, done, stop}
-use Rattle.grammar.specs.Into.{definitionIn}
+use Rattle.parse_definitions.specs.Into.{definitionIn}
 
 -- ---- the document
 

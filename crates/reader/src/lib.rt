@@ -38,7 +38,7 @@ fn parse_in_rest(
     ensures { λ r. ⌜ Reads (restIn (now (text .entry))) st r (now (nodes .entry)) (now (nodes .exit)) (now (comments .entry)) (now (comments .exit)) ⌝ }
 {
     let at = rest_of(nodes.len(), st.next);
-    grammar::definitions::parse_definition(class, trie, text, st, &mut nodes[at..], comments)
+    parse_definitions::parse_definition(class, trie, text, st, &mut nodes[at..], comments)
 }
 
 // The end of the text: refused where the last token ends at offset 1.

@@ -1,9 +1,0 @@
-pub mod Forms
-pub mod ContainerForms
-pub mod ListForms
-pub mod KindTests
-pub mod MeantTypes
-pub mod MeantValues
-pub mod MeantFields
-pub mod MeantFunctions
-pub mod MeantDefinitions

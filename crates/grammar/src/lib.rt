@@ -1,4 +1,0 @@
-// The grammar: types, values, and every definition.
-pub mod definitions;
-mod types;
-mod values;

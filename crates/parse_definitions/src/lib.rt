@@ -1,0 +1,382 @@
+// Definitions, the keyword ahead (rico's parser/definitions.rs); `rest` is lent from the definition's own record on.
+ghost use Rattle.steps.specs.Into.{Puts, Keeps, Lent, Reads, Quiet};
+ghost use Rattle.parse_definitions.specs.Into.{beginIn, ownRecordIn, includeIn, scopeIn, namespaceIn, typedNameIn, constIn, typedefIn, enumIn, structureIn, extendsIn, serviceHeadIn, serviceIn, definitionIn};
+use parse_members::NESTING;
+use parse_members::annotations;
+use parse_members::enums;
+use parse_members::fields;
+use parse_members::functions;
+use parse_values::types;
+use parse_values::values;
+use steps::state::Parsed;
+use steps::state::State;
+use steps::table;
+
+// The record's number and the state behind the keyword, its comments owned.
+fn begin(class: &[u8; 256], trie: &[u8; 512], text: &[u8], st: State, comments: &mut [u32]) -> State
+    requires { ⌜ Lent (now class) (now trie) (now text) ⌝ }
+    ensures { λ r. ⌜ Keeps (beginIn (now (text .entry))) st r (now (comments .entry)) (now (comments .exit)) ⌝ }
+{
+    let first = steps::own(table::open(st), st.next, comments);
+    steps::advance(class, trie, text, first)
+}
+
+// The definition's own record, from its keyword on.
+fn close(rest: &mut [u32], st: State, state: State, kind: u32)
+    ensures { λ _. ⌜ Puts (ownRecordIn st kind) state state (now (rest .entry)) (now (rest .exit)) ⌝ }
+{
+    let loc = st.loc;
+    let start = loc.start;
+    table::put_node(rest, state, st.next, kind, 0, start, st.next, 4294967295);
+}
+
+// parse_include, parse_cpp_include
+fn parse_include(
+    class: &[u8; 256],
+    trie: &[u8; 512],
+    text: &[u8],
+    st: State,
+    kind: u32,
+    rest: &mut [u32],
+    comments: &mut [u32],
+) -> Parsed
+    requires { ⌜ Lent (now class) (now trie) (now text) ⌝ }
+    ensures { λ r. ⌜ Reads (includeIn (now (text .entry)) kind) st r (now (rest .entry)) (now (rest .exit)) (now (comments .entry)) (now (comments .exit)) ⌝ }
+{
+    let begun = begin(class, trie, text, st, comments);
+    let name = parse_members::parse_leaf(
+        class,
+        trie,
+        text,
+        begun,
+        29,
+        12,
+        16,
+        st.next,
+        st.next,
+        rest,
+    );
+    let Parsed::On(state) = name else {
+        return name;
+    };
+    close(rest, st, state, kind);
+    Parsed::On(state)
+}
+
+// The scope of a namespace: a name or `*`.
+fn parse_scope(
+    class: &[u8; 256],
+    trie: &[u8; 512],
+    text: &[u8],
+    st: State,
+    base: u32,
+    parent: u32,
+    rest: &mut [u32],
+) -> Parsed
+    requires { ⌜ Lent (now class) (now trie) (now text) ⌝ }
+    ensures { λ r. ⌜ Quiet (scopeIn (now (text .entry)) base parent) st r (now (rest .entry)) (now (rest .exit)) ⌝ }
+{
+    if st.kind == 47 {
+        return parse_members::parse_leaf(class, trie, text, st, 47, 11, 16, base, parent, rest);
+    }
+    parse_members::parse_name(class, trie, text, st, 11, base, parent, rest)
+}
+
+// parse_namespace
+fn parse_namespace(
+    class: &[u8; 256],
+    trie: &[u8; 512],
+    text: &[u8],
+    st: State,
+    rest: &mut [u32],
+    comments: &mut [u32],
+) -> Parsed
+    requires { ⌜ Lent (now class) (now trie) (now text) ⌝ }
+    ensures { λ r. ⌜ Reads (namespaceIn (now (text .entry))) st r (now (rest .entry)) (now (rest .exit)) (now (comments .entry)) (now (comments .exit)) ⌝ }
+{
+    let begun = begin(class, trie, text, st, comments);
+    let scope = parse_scope(class, trie, text, begun, st.next, st.next, rest);
+    let Parsed::On(scoped) = scope else {
+        return scope;
+    };
+    let name = parse_members::parse_name(class, trie, text, scoped, 10, st.next, st.next, rest);
+    let Parsed::On(state) = name else {
+        return name;
+    };
+    close(rest, st, state, 3);
+    Parsed::On(state)
+}
+
+// A type and a name.
+fn parse_typed_name(
+    class: &[u8; 256],
+    trie: &[u8; 512],
+    text: &[u8],
+    st: State,
+    number: u32,
+    base: u32,
+    parent: u32,
+    rest: &mut [u32],
+) -> Parsed
+    requires { ⌜ Lent (now class) (now trie) (now text) ⌝ }
+    ensures { λ r. ⌜ Quiet (typedNameIn (now (text .entry)) number base parent) st r (now (rest .entry)) (now (rest .exit)) ⌝ }
+{
+    let read = types::parse_type(class, trie, text, st, NESTING, base, parent, rest);
+    let Parsed::On(typed) = read else {
+        return read;
+    };
+    parse_members::parse_name(class, trie, text, typed, number, base, parent, rest)
+}
+
+// parse_const: separators and comments behind the value are taken, and lie outside its range.
+fn parse_const(
+    class: &[u8; 256],
+    trie: &[u8; 512],
+    text: &[u8],
+    st: State,
+    rest: &mut [u32],
+    comments: &mut [u32],
+) -> Parsed
+    requires { ⌜ Lent (now class) (now trie) (now text) ⌝ }
+    ensures { λ r. ⌜ Reads (constIn (now (text .entry))) st r (now (rest .entry)) (now (rest .exit)) (now (comments .entry)) (now (comments .exit)) ⌝ }
+{
+    let begun = begin(class, trie, text, st, comments);
+    let head = parse_typed_name(class, trie, text, begun, 13, st.next, st.next, rest);
+    let Parsed::On(named) = head else {
+        return head;
+    };
+    let equals = steps::expect(class, trie, text, named, 45, 2);
+    let Parsed::On(behind) = equals else {
+        return equals;
+    };
+    let value = values::parse_value(class, trie, text, behind, NESTING, st.next, st.next, rest);
+    let Parsed::On(state) = value else {
+        return value;
+    };
+    close(rest, st, state, 4);
+    Parsed::On(steps::skip_comments(class, trie, text, state, true, comments))
+}
+
+// parse_typedef
+fn parse_typedef(
+    class: &[u8; 256],
+    trie: &[u8; 512],
+    text: &[u8],
+    st: State,
+    rest: &mut [u32],
+    comments: &mut [u32],
+) -> Parsed
+    requires { ⌜ Lent (now class) (now trie) (now text) ⌝ }
+    ensures { λ r. ⌜ Reads (typedefIn (now (text .entry))) st r (now (rest .entry)) (now (rest .exit)) (now (comments .entry)) (now (comments .exit)) ⌝ }
+{
+    let begun = begin(class, trie, text, st, comments);
+    let head = parse_typed_name(class, trie, text, begun, 14, st.next, st.next, rest);
+    let Parsed::On(state) = head else {
+        return head;
+    };
+    close(rest, st, state, 5);
+    Parsed::On(state)
+}
+
+// parse_enum
+fn parse_enum(
+    class: &[u8; 256],
+    trie: &[u8; 512],
+    text: &[u8],
+    st: State,
+    rest: &mut [u32],
+    comments: &mut [u32],
+) -> Parsed
+    requires { ⌜ Lent (now class) (now trie) (now text) ⌝ }
+    ensures { λ r. ⌜ Reads (enumIn (now (text .entry))) st r (now (rest .entry)) (now (rest .exit)) (now (comments .entry)) (now (comments .exit)) ⌝ }
+{
+    let begun = begin(class, trie, text, st, comments);
+    let name = parse_members::parse_name(class, trie, text, begun, 15, st.next, st.next, rest);
+    let Parsed::On(named) = name else {
+        return name;
+    };
+    let body = enums::parse_enum_members(
+        class,
+        trie,
+        text,
+        named,
+        st.next,
+        st.next,
+        rest,
+        comments,
+    );
+    let Parsed::On(behind) = body else {
+        return body;
+    };
+    let read = annotations::parse_annotations(class, trie, text, behind, st.next, st.next, rest);
+    let Parsed::On(state) = read else {
+        return read;
+    };
+    close(rest, st, state, 6);
+    Parsed::On(state)
+}
+
+// parse_struct_like: struct, union, exception
+fn parse_structure(
+    class: &[u8; 256],
+    trie: &[u8; 512],
+    text: &[u8],
+    st: State,
+    kind: u32,
+    rest: &mut [u32],
+    comments: &mut [u32],
+) -> Parsed
+    requires { ⌜ Lent (now class) (now trie) (now text) ⌝ }
+    ensures { λ r. ⌜ Reads (structureIn (now (text .entry)) kind) st r (now (rest .entry)) (now (rest .exit)) (now (comments .entry)) (now (comments .exit)) ⌝ }
+{
+    let begun = begin(class, trie, text, st, comments);
+    let name = parse_members::parse_name(class, trie, text, begun, 16, st.next, st.next, rest);
+    let Parsed::On(named) = name else {
+        return name;
+    };
+    let body = fields::parse_fields(
+        class,
+        trie,
+        text,
+        named,
+        34,
+        35,
+        0,
+        st.next,
+        st.next,
+        rest,
+        comments,
+    );
+    let Parsed::On(behind) = body else {
+        return body;
+    };
+    let read = annotations::parse_annotations(class, trie, text, behind, st.next, st.next, rest);
+    let Parsed::On(state) = read else {
+        return read;
+    };
+    close(rest, st, state, kind);
+    Parsed::On(state)
+}
+
+// The service that another extends, if it names one.
+fn parse_extends(
+    class: &[u8; 256],
+    trie: &[u8; 512],
+    text: &[u8],
+    st: State,
+    base: u32,
+    parent: u32,
+    rest: &mut [u32],
+) -> Parsed
+    requires { ⌜ Lent (now class) (now trie) (now text) ⌝ }
+    ensures { λ r. ⌜ Quiet (extendsIn (now (text .entry)) base parent) st r (now (rest .entry)) (now (rest .exit)) ⌝ }
+{
+    if st.kind != 11 {
+        return Parsed::On(st);
+    }
+    let state = steps::advance(class, trie, text, st);
+    parse_members::parse_name(class, trie, text, state, 18, base, parent, rest)
+}
+
+// The name of a service, and what it extends.
+fn parse_service_head(
+    class: &[u8; 256],
+    trie: &[u8; 512],
+    text: &[u8],
+    st: State,
+    base: u32,
+    parent: u32,
+    rest: &mut [u32],
+) -> Parsed
+    requires { ⌜ Lent (now class) (now trie) (now text) ⌝ }
+    ensures { λ r. ⌜ Quiet (serviceHeadIn (now (text .entry)) base parent) st r (now (rest .entry)) (now (rest .exit)) ⌝ }
+{
+    let name = parse_members::parse_name(class, trie, text, st, 17, base, parent, rest);
+    let Parsed::On(named) = name else {
+        return name;
+    };
+    parse_extends(class, trie, text, named, base, parent, rest)
+}
+
+// parse_service
+fn parse_service(
+    class: &[u8; 256],
+    trie: &[u8; 512],
+    text: &[u8],
+    st: State,
+    rest: &mut [u32],
+    comments: &mut [u32],
+) -> Parsed
+    requires { ⌜ Lent (now class) (now trie) (now text) ⌝ }
+    ensures { λ r. ⌜ Reads (serviceIn (now (text .entry))) st r (now (rest .entry)) (now (rest .exit)) (now (comments .entry)) (now (comments .exit)) ⌝ }
+{
+    let begun = begin(class, trie, text, st, comments);
+    let head = parse_service_head(class, trie, text, begun, st.next, st.next, rest);
+    let Parsed::On(named) = head else {
+        return head;
+    };
+    let body = functions::parse_functions(
+        class,
+        trie,
+        text,
+        named,
+        st.next,
+        st.next,
+        rest,
+        comments,
+    );
+    let Parsed::On(behind) = body else {
+        return body;
+    };
+    let read = annotations::parse_annotations(class, trie, text, behind, st.next, st.next, rest);
+    let Parsed::On(state) = read else {
+        return read;
+    };
+    close(rest, st, state, 10);
+    Parsed::On(state)
+}
+
+// The definition whose keyword is ahead.
+pub fn parse_definition(
+    class: &[u8; 256],
+    trie: &[u8; 512],
+    text: &[u8],
+    st: State,
+    rest: &mut [u32],
+    comments: &mut [u32],
+) -> Parsed
+    requires { ⌜ Lent (now class) (now trie) (now text) ⌝ }
+    ensures { λ r. ⌜ Reads (definitionIn (now (text .entry))) st r (now (rest .entry)) (now (rest .exit)) (now (comments .entry)) (now (comments .exit)) ⌝ }
+{
+    if st.kind == 1 {
+        return parse_namespace(class, trie, text, st, rest, comments);
+    }
+    if st.kind == 2 {
+        return parse_include(class, trie, text, st, 2, rest, comments);
+    }
+    if st.kind == 3 {
+        return parse_include(class, trie, text, st, 1, rest, comments);
+    }
+    if st.kind == 4 {
+        return parse_typedef(class, trie, text, st, rest, comments);
+    }
+    if st.kind == 5 {
+        return parse_const(class, trie, text, st, rest, comments);
+    }
+    if st.kind == 6 {
+        return parse_enum(class, trie, text, st, rest, comments);
+    }
+    if st.kind == 7 {
+        return parse_structure(class, trie, text, st, 7, rest, comments);
+    }
+    if st.kind == 8 {
+        return parse_structure(class, trie, text, st, 8, rest, comments);
+    }
+    if st.kind == 9 {
+        return parse_structure(class, trie, text, st, 9, rest, comments);
+    }
+    if st.kind == 10 {
+        return parse_service(class, trie, text, st, rest, comments);
+    }
+    steps::refuse(st, 2)
+}

@@ -1,0 +1,5 @@
+pub mod Forms
+pub mod ListForms
+pub mod KindTests
+pub mod MeantFields
+pub mod MeantFunctions

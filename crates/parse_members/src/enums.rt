@@ -1,0 +1,100 @@
+// Enum members.
+ghost use Rattle.steps.specs.Into.{Lent, Reads, Quiet};
+ghost use Rattle.parse_members.specs.Into.{initializerIn, memberIn, enumMembersIn};
+use crate::annotations;
+use steps::state::MOST;
+use steps::state::Parsed;
+use steps::state::State;
+use steps::table;
+
+// The number of a member, if it is written.
+fn parse_initializer(
+    class: &[u8; 256],
+    trie: &[u8; 512],
+    text: &[u8],
+    st: State,
+    base: u32,
+    parent: u32,
+    rest: &mut [u32],
+) -> Parsed
+    requires { ⌜ Lent (now class) (now trie) (now text) ⌝ }
+    ensures { λ r. ⌜ Quiet (initializerIn (now (text .entry)) base parent) st r (now (rest .entry)) (now (rest .exit)) ⌝ }
+{
+    if st.kind != 45 {
+        return Parsed::On(st);
+    }
+    let state = steps::advance(class, trie, text, st);
+    if state.kind == 31 {
+        return crate::parse_leaf(class, trie, text, state, 31, 6, 27, base, parent, rest);
+    }
+    crate::parse_leaf(class, trie, text, state, 32, 6, 24, base, parent, rest)
+}
+
+// parse_enum_member
+fn parse_enum_member(
+    class: &[u8; 256],
+    trie: &[u8; 512],
+    text: &[u8],
+    st: State,
+    base: u32,
+    parent: u32,
+    rest: &mut [u32],
+    comments: &mut [u32],
+) -> Parsed
+    requires { ⌜ Lent (now class) (now trie) (now text) ⌝ }
+    ensures { λ r. ⌜ Reads (memberIn (now (text .entry)) base parent) st r (now (rest .entry)) (now (rest .exit)) (now (comments .entry)) (now (comments .exit)) ⌝ }
+{
+    let first = steps::own(table::open(st), st.next, comments);
+    let name = crate::parse_name(class, trie, text, first, 19, base, st.next, rest);
+    let Parsed::On(named) = name else {
+        return name;
+    };
+    let value = parse_initializer(class, trie, text, named, base, st.next, rest);
+    let Parsed::On(behind) = value else {
+        return value;
+    };
+    let read = annotations::parse_annotations(class, trie, text, behind, base, st.next, rest);
+    let Parsed::On(state) = read else {
+        return read;
+    };
+    let own = named.last;
+    let start = own.start;
+    table::put_node(rest, state, st.next, 13, 0, start, base, parent);
+    Parsed::On(state)
+}
+
+// The members of an enum, in braces.
+pub fn parse_enum_members(
+    class: &[u8; 256],
+    trie: &[u8; 512],
+    text: &[u8],
+    st: State,
+    base: u32,
+    parent: u32,
+    rest: &mut [u32],
+    comments: &mut [u32],
+) -> Parsed
+    requires { ⌜ Lent (now class) (now trie) (now text) ⌝ }
+    ensures { λ r. ⌜ Reads (enumMembersIn (now (text .entry)) base parent) st r (now (rest .entry)) (now (rest .exit)) (now (comments .entry)) (now (comments .exit)) ⌝ }
+{
+    let opened = steps::expect(class, trie, text, st, 34, 2);
+    let Parsed::On(inside) = opened else {
+        return opened;
+    };
+    let mut state = inside;
+    let mut left = MOST;
+    while 0 < left {
+        let over = steps::skip(class, trie, text, state, true);
+        let found = steps::skip_comments(class, trie, text, over, false, comments);
+        if found.kind == 35 {
+            return steps::take(class, trie, text, found);
+        }
+        let read = parse_enum_member(class, trie, text, found, base, parent, rest, comments);
+        let Parsed::On(behind) = read else {
+            return read;
+        };
+        state = behind;
+        left -= 1;
+    }
+    steps::refuse(state, 3)
+}

@@ -1,0 +1,208 @@
+// Functions.
+ghost use mathlib.Core.Path.{_≡_};
+ghost use Rattle.steps.specs.Into.{Lent, Reads, Quiet};
+ghost use Rattle.parse_members.specs.Into.{throwsIn, returnTypeIn, flagIf, skipOneway, functionHeadIn, functionTailIn, functionIn, functionsIn};
+use crate::NESTING;
+use crate::annotations;
+use crate::fields;
+use parse_values::types;
+use steps::state::MOST;
+use steps::state::Parsed;
+use steps::state::State;
+use steps::table;
+
+// The thrown fields, if `throws` is written.
+fn parse_throws(
+    class: &[u8; 256],
+    trie: &[u8; 512],
+    text: &[u8],
+    st: State,
+    base: u32,
+    parent: u32,
+    rest: &mut [u32],
+    comments: &mut [u32],
+) -> Parsed
+    requires { ⌜ Lent (now class) (now trie) (now text) ⌝ }
+    ensures { λ r. ⌜ Reads (throwsIn (now (text .entry)) base parent) st r (now (rest .entry)) (now (rest .exit)) (now (comments .entry)) (now (comments .exit)) ⌝ }
+{
+    if st.kind != 12 {
+        return Parsed::On(st);
+    }
+    let state = steps::advance(class, trie, text, st);
+    fields::parse_fields(
+        class,
+        trie,
+        text,
+        state,
+        40,
+        41,
+        16,
+        base,
+        parent,
+        rest,
+        comments,
+    )
+}
+
+// `void`, or a type.
+fn parse_return_type(
+    class: &[u8; 256],
+    trie: &[u8; 512],
+    text: &[u8],
+    st: State,
+    base: u32,
+    parent: u32,
+    rest: &mut [u32],
+) -> Parsed
+    requires { ⌜ Lent (now class) (now trie) (now text) ⌝ }
+    ensures { λ r. ⌜ Quiet (returnTypeIn (now (text .entry)) base parent) st r (now (rest .entry)) (now (rest .exit)) ⌝ }
+{
+    if st.kind != 15 {
+        return types::parse_type(class, trie, text, st, NESTING, base, parent, rest);
+    }
+    let state = steps::advance(class, trie, text, st);
+    Parsed::On(table::put_leaf(rest, state, 18, base, parent))
+}
+
+// The flag of a kind, if the token ahead is of it.
+fn flag_if(ahead: u8, kind: u8, flag: u32) -> u32
+    ensures { λ r. ⌜ r ≡ flagIf ahead kind flag ⌝ }
+{
+    if ahead == kind { flag } else { 0 }
+}
+
+// Past `oneway`, if it is there.
+fn skip_oneway(class: &[u8; 256], trie: &[u8; 512], text: &[u8], st: State) -> State
+    requires { ⌜ Lent (now class) (now trie) (now text) ⌝ }
+    ensures { λ r. ⌜ r ≡ skipOneway (now (text .entry)) st ⌝ }
+{
+    if st.kind != 50 {
+        return st;
+    }
+    steps::advance(class, trie, text, st)
+}
+
+// The return type and the name of a function.
+fn parse_function_head(
+    class: &[u8; 256],
+    trie: &[u8; 512],
+    text: &[u8],
+    st: State,
+    base: u32,
+    parent: u32,
+    rest: &mut [u32],
+) -> Parsed
+    requires { ⌜ Lent (now class) (now trie) (now text) ⌝ }
+    ensures { λ r. ⌜ Quiet (functionHeadIn (now (text .entry)) base parent) st r (now (rest .entry)) (now (rest .exit)) ⌝ }
+{
+    let begun = skip_oneway(class, trie, text, st);
+    let read = parse_return_type(class, trie, text, begun, base, parent, rest);
+    let Parsed::On(typed) = read else {
+        return read;
+    };
+    crate::parse_name(class, trie, text, typed, 2, base, parent, rest)
+}
+
+// What stands behind the parameters: thrown fields; separators and comments; annotations.
+fn parse_function_tail(
+    class: &[u8; 256],
+    trie: &[u8; 512],
+    text: &[u8],
+    st: State,
+    base: u32,
+    parent: u32,
+    rest: &mut [u32],
+    comments: &mut [u32],
+) -> Parsed
+    requires { ⌜ Lent (now class) (now trie) (now text) ⌝ }
+    ensures { λ r. ⌜ Reads (functionTailIn (now (text .entry)) base parent) st r (now (rest .entry)) (now (rest .exit)) (now (comments .entry)) (now (comments .exit)) ⌝ }
+{
+    let thrown = parse_throws(class, trie, text, st, base, parent, rest, comments);
+    let Parsed::On(behind) = thrown else {
+        return thrown;
+    };
+    let state = steps::skip_comments(class, trie, text, behind, true, comments);
+    annotations::parse_annotations(class, trie, text, state, base, parent, rest)
+}
+
+// parse_function: its range starts at its name.
+fn parse_function(
+    class: &[u8; 256],
+    trie: &[u8; 512],
+    text: &[u8],
+    st: State,
+    base: u32,
+    parent: u32,
+    rest: &mut [u32],
+    comments: &mut [u32],
+) -> Parsed
+    requires { ⌜ Lent (now class) (now trie) (now text) ⌝ }
+    ensures { λ r. ⌜ Reads (functionIn (now (text .entry)) base parent) st r (now (rest .entry)) (now (rest .exit)) (now (comments .entry)) (now (comments .exit)) ⌝ }
+{
+    let first = steps::own(table::open(st), st.next, comments);
+    let head = parse_function_head(class, trie, text, first, base, st.next, rest);
+    let Parsed::On(named) = head else {
+        return head;
+    };
+    let read = fields::parse_fields(
+        class,
+        trie,
+        text,
+        named,
+        40,
+        41,
+        0,
+        base,
+        st.next,
+        rest,
+        comments,
+    );
+    let Parsed::On(behind) = read else {
+        return read;
+    };
+    let tail = parse_function_tail(class, trie, text, behind, base, st.next, rest, comments);
+    let Parsed::On(state) = tail else {
+        return tail;
+    };
+    let flags = table::sum(flag_if(st.kind, 50, 4), flag_if(behind.kind, 12, 8));
+    let name = named.last;
+    let start = name.start;
+    table::put_node(rest, state, st.next, 11, flags, start, base, parent);
+    Parsed::On(state)
+}
+
+// The functions of a service, in braces.
+pub fn parse_functions(
+    class: &[u8; 256],
+    trie: &[u8; 512],
+    text: &[u8],
+    st: State,
+    base: u32,
+    parent: u32,
+    rest: &mut [u32],
+    comments: &mut [u32],
+) -> Parsed
+    requires { ⌜ Lent (now class) (now trie) (now text) ⌝ }
+    ensures { λ r. ⌜ Reads (functionsIn (now (text .entry)) base parent) st r (now (rest .entry)) (now (rest .exit)) (now (comments .entry)) (now (comments .exit)) ⌝ }
+{
+    let opened = steps::expect(class, trie, text, st, 34, 2);
+    let Parsed::On(inside) = opened else {
+        return opened;
+    };
+    let mut state = inside;
+    let mut left = MOST;
+    while 0 < left {
+        let over = steps::skip(class, trie, text, state, true);
+        let found = steps::skip_comments(class, trie, text, over, false, comments);
+        if found.kind == 35 {
+            return steps::take(class, trie, text, found);
+        }
+        let read = parse_function(class, trie, text, found, base, parent, rest, comments);
+        let Parsed::On(behind) = read else {
+            return read;
+        };
+        state = behind;
+        left -= 1;
+    }
+    steps::refuse(state, 3)
+}

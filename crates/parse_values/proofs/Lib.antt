@@ -1,0 +1,5 @@
+pub mod ContainerForms
+pub mod ListForms
+pub mod KindTests
+pub mod MeantTypes
+pub mod MeantValues

@@ -1,0 +1,137 @@
+// Types: rico's parser/types.rs.
+ghost use mathlib.Core.Path.{_≡_};
+ghost use Rattle.steps.specs.Into.{Lent, Quiet};
+ghost use Rattle.parse_values.specs.Into.{leafType, containerType, containedIn, complexIn, typeIn};
+use steps::state::Parsed;
+use steps::state::State;
+use steps::table;
+
+// The record of a type that is one token: 18 for a keyword, 19 for a name, else 0.
+fn leaf_type(kind: u8) -> u32
+    ensures { λ r. ⌜ r ≡ leafType kind ⌝ }
+{
+    if kind < 16 {
+        return 0;
+    }
+    if kind <= 24 {
+        return 18;
+    }
+    if kind == 28 { 19 } else { 0 }
+}
+
+// The record of a container: 20 list, 21 set, 22 map, else 0.
+fn container_type(kind: u8) -> u32
+    ensures { λ r. ⌜ r ≡ containerType kind ⌝ }
+{
+    if kind == 25 {
+        return 22;
+    }
+    if kind == 26 {
+        return 20;
+    }
+    if kind == 27 { 21 } else { 0 }
+}
+
+// parse_field_type with `depth` containers left: the next one inside is 23 at its keyword.
+pub fn parse_type(
+    class: &[u8; 256],
+    trie: &[u8; 512],
+    text: &[u8],
+    st: State,
+    depth: u32,
+    base: u32,
+    parent: u32,
+    rest: &mut [u32],
+) -> Parsed
+    requires { ⌜ Lent (now class) (now trie) (now text) ⌝ }
+    ensures { λ r. ⌜ Quiet (typeIn (now (text .entry)) depth base parent) st r (now (rest .entry)) (now (rest .exit)) ⌝ }
+{
+    let taken = steps::take(class, trie, text, st);
+    let Parsed::On(state) = taken else {
+        return taken;
+    };
+    let leaf = leaf_type(st.kind);
+    if leaf != 0 {
+        return Parsed::On(table::put_leaf(rest, state, leaf, base, parent));
+    }
+    let container = container_type(st.kind);
+    if container == 0 {
+        return steps::refuse(st, 4);
+    }
+    if depth == 0 {
+        return steps::refuse(st, 23);
+    }
+    parse_complex_type(
+        class,
+        trie,
+        text,
+        state,
+        container,
+        depth - 1,
+        base,
+        parent,
+        rest,
+    )
+}
+
+// parse_complex_type, parse_map_type: behind the container's keyword.
+fn parse_complex_type(
+    class: &[u8; 256],
+    trie: &[u8; 512],
+    text: &[u8],
+    st: State,
+    kind: u32,
+    depth: u32,
+    base: u32,
+    parent: u32,
+    rest: &mut [u32],
+) -> Parsed
+    requires { ⌜ Lent (now class) (now trie) (now text) ⌝ }
+    ensures { λ r. ⌜ Quiet (complexIn (now (text .entry)) kind (λ q. typeIn (now (text .entry)) depth base q) base parent) st r (now (rest .entry)) (now (rest .exit)) ⌝ }
+{
+    let opened = steps::expect(class, trie, text, table::open(st), 38, 2);
+    let Parsed::On(inner) = opened else {
+        return opened;
+    };
+    let read = parse_contained(class, trie, text, inner, kind, depth, base, st.next, rest);
+    let Parsed::On(behind) = read else {
+        return read;
+    };
+    let closed = steps::expect(class, trie, text, behind, 39, 2);
+    let Parsed::On(state) = closed else {
+        return closed;
+    };
+    let last = st.last;
+    let start = last.start;
+    table::put_node(rest, state, st.next, kind, 0, start, base, parent);
+    Parsed::On(state)
+}
+
+// The contained type; of a map both, with the comma between.
+fn parse_contained(
+    class: &[u8; 256],
+    trie: &[u8; 512],
+    text: &[u8],
+    st: State,
+    kind: u32,
+    depth: u32,
+    base: u32,
+    parent: u32,
+    rest: &mut [u32],
+) -> Parsed
+    requires { ⌜ Lent (now class) (now trie) (now text) ⌝ }
+    ensures { λ r. ⌜ Quiet (containedIn (now (text .entry)) kind (typeIn (now (text .entry)) depth base parent)) st r (now (rest .entry)) (now (rest .exit)) ⌝ }
+{
+    let first = parse_type(class, trie, text, st, depth, base, parent, rest);
+    if kind != 22 {
+        return first;
+    }
+    let Parsed::On(key) = first else {
+        return first;
+    };
+    let comma = steps::expect(class, trie, text, key, 44, 2);
+    let Parsed::On(value) = comma else {
+        return comma;
+    };
+    parse_type(class, trie, text, value, depth, base, parent, rest)
+}

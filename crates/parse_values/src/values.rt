@@ -1,0 +1,220 @@
+// Constant values: rico's parser/values.rs.
+ghost use mathlib.Core.Path.{_≡_};
+ghost use Rattle.steps.specs.Into.{Lent, Quiet};
+ghost use Rattle.parse_values.specs.Into.{leafValue, elementsIn, listIn, propertyIn, propertiesIn, mapIn, isOpener, valueIn};
+use steps::state::MOST;
+use steps::state::Parsed;
+use steps::state::State;
+use steps::table;
+
+// The record of a value that is one token: 23 string, 24 integer, 25 double, 26 boolean, 27 hex, 28 name; else 0.
+fn leaf_value(kind: u8) -> u32
+    ensures { λ r. ⌜ r ≡ leafValue kind ⌝ }
+{
+    if kind == 28 {
+        return 28;
+    }
+    if kind == 29 {
+        return 23;
+    }
+    if kind == 30 {
+        return 25;
+    }
+    if kind == 31 {
+        return 27;
+    }
+    if kind == 32 {
+        return 24;
+    }
+    if kind == 33 { 26 } else { 0 }
+}
+
+// A bracket or brace that opens a value.
+fn is_opener(kind: u8) -> bool
+    ensures { λ r. ⌜ r ≡ isOpener kind ⌝ }
+{
+    if kind == 34 {
+        return true;
+    }
+    kind == 36
+}
+
+// parse_field_value with `depth` containers left: the next one inside is 23 at its bracket.
+pub fn parse_value(
+    class: &[u8; 256],
+    trie: &[u8; 512],
+    text: &[u8],
+    st: State,
+    depth: u32,
+    base: u32,
+    parent: u32,
+    rest: &mut [u32],
+) -> Parsed
+    requires { ⌜ Lent (now class) (now trie) (now text) ⌝ }
+    ensures { λ r. ⌜ Quiet (valueIn (now (text .entry)) depth base parent) st r (now (rest .entry)) (now (rest .exit)) ⌝ }
+{
+    let taken = steps::take(class, trie, text, st);
+    let Parsed::On(state) = taken else {
+        return taken;
+    };
+    let leaf = leaf_value(st.kind);
+    if leaf != 0 {
+        return Parsed::On(table::put_leaf(rest, state, leaf, base, parent));
+    }
+    if !is_opener(st.kind) {
+        return steps::refuse(st, 6);
+    }
+    if depth == 0 {
+        return steps::refuse(st, 23);
+    }
+    if st.kind == 36 {
+        return parse_list_value(class, trie, text, state, depth - 1, base, parent, rest);
+    }
+    parse_map_value(class, trie, text, state, depth - 1, base, parent, rest)
+}
+
+// parse_list_value: behind the bracket.
+fn parse_list_value(
+    class: &[u8; 256],
+    trie: &[u8; 512],
+    text: &[u8],
+    st: State,
+    depth: u32,
+    base: u32,
+    parent: u32,
+    rest: &mut [u32],
+) -> Parsed
+    requires { ⌜ Lent (now class) (now trie) (now text) ⌝ }
+    ensures { λ r. ⌜ Quiet (listIn (now (text .entry)) (λ q. valueIn (now (text .entry)) depth base q) base parent) st r (now (rest .entry)) (now (rest .exit)) ⌝ }
+{
+    let opened = table::open(st);
+    let read = parse_elements(class, trie, text, opened, depth, base, st.next, rest);
+    let Parsed::On(state) = read else {
+        return read;
+    };
+    let last = st.last;
+    let start = last.start;
+    table::put_node(rest, state, st.next, 29, 0, start, base, parent);
+    Parsed::On(state)
+}
+
+// The elements up to the closing bracket, and that.
+fn parse_elements(
+    class: &[u8; 256],
+    trie: &[u8; 512],
+    text: &[u8],
+    st: State,
+    depth: u32,
+    base: u32,
+    parent: u32,
+    rest: &mut [u32],
+) -> Parsed
+    requires { ⌜ Lent (now class) (now trie) (now text) ⌝ }
+    ensures { λ r. ⌜ Quiet (elementsIn (now (text .entry)) (valueIn (now (text .entry)) depth base parent)) st r (now (rest .entry)) (now (rest .exit)) ⌝ }
+{
+    let mut state = st;
+    let mut left = MOST;
+    while 0 < left {
+        let over = steps::skip(class, trie, text, state, true);
+        let found = steps::skip(class, trie, text, over, false);
+        if found.kind == 37 {
+            return steps::take(class, trie, text, found);
+        }
+        let read = parse_value(class, trie, text, found, depth, base, parent, rest);
+        let Parsed::On(behind) = read else {
+            return read;
+        };
+        state = behind;
+        left -= 1;
+    }
+    steps::refuse(state, 3)
+}
+
+// parse_map_value: behind the brace.
+fn parse_map_value(
+    class: &[u8; 256],
+    trie: &[u8; 512],
+    text: &[u8],
+    st: State,
+    depth: u32,
+    base: u32,
+    parent: u32,
+    rest: &mut [u32],
+) -> Parsed
+    requires { ⌜ Lent (now class) (now trie) (now text) ⌝ }
+    ensures { λ r. ⌜ Quiet (mapIn (now (text .entry)) (λ q. valueIn (now (text .entry)) depth base q) base parent) st r (now (rest .entry)) (now (rest .exit)) ⌝ }
+{
+    let opened = table::open(st);
+    let read = parse_properties(class, trie, text, opened, depth, base, st.next, rest);
+    let Parsed::On(state) = read else {
+        return read;
+    };
+    let last = st.last;
+    let start = last.start;
+    table::put_node(rest, state, st.next, 30, 0, start, base, parent);
+    Parsed::On(state)
+}
+
+// The properties up to the closing brace, and that.
+fn parse_properties(
+    class: &[u8; 256],
+    trie: &[u8; 512],
+    text: &[u8],
+    st: State,
+    depth: u32,
+    base: u32,
+    parent: u32,
+    rest: &mut [u32],
+) -> Parsed
+    requires { ⌜ Lent (now class) (now trie) (now text) ⌝ }
+    ensures { λ r. ⌜ Quiet (propertiesIn (now (text .entry)) (propertyIn (now (text .entry)) (λ q. valueIn (now (text .entry)) depth base q) base parent)) st r (now (rest .entry)) (now (rest .exit)) ⌝ }
+{
+    let mut state = st;
+    let mut left = MOST;
+    while 0 < left {
+        let over = steps::skip(class, trie, text, state, true);
+        let found = steps::skip(class, trie, text, over, false);
+        if found.kind == 35 {
+            return steps::take(class, trie, text, found);
+        }
+        let read = parse_property(class, trie, text, found, depth, base, parent, rest);
+        let Parsed::On(behind) = read else {
+            return read;
+        };
+        state = behind;
+        left -= 1;
+    }
+    steps::refuse(state, 3)
+}
+
+// A property: two values with a colon between.
+fn parse_property(
+    class: &[u8; 256],
+    trie: &[u8; 512],
+    text: &[u8],
+    st: State,
+    depth: u32,
+    base: u32,
+    parent: u32,
+    rest: &mut [u32],
+) -> Parsed
+    requires { ⌜ Lent (now class) (now trie) (now text) ⌝ }
+    ensures { λ r. ⌜ Quiet (propertyIn (now (text .entry)) (λ q. valueIn (now (text .entry)) depth base q) base parent) st r (now (rest .entry)) (now (rest .exit)) ⌝ }
+{
+    let opened = table::open(st);
+    let first = parse_value(class, trie, text, opened, depth, base, st.next, rest);
+    let Parsed::On(key) = first else {
+        return first;
+    };
+    let colon = steps::expect(class, trie, text, key, 43, 2);
+    let Parsed::On(behind) = colon else {
+        return colon;
+    };
+    let second = parse_value(class, trie, text, behind, depth, base, st.next, rest);
+    let Parsed::On(state) = second else {
+        return second;
+    };
+    let start = steps::start_of(st);
+    table::put_node(rest, state, st.next, 31, 0, start, base, parent);
+    Parsed::On(state)
+}
