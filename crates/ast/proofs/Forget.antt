@@ -1,47 +1,9 @@
 -- Trees without their places, and without what write_param drops. Assumes nothing.
 use mathlib.Core.List.{List, [], _∷_}
-use mathlib.Core.Option.{Option, some, none}
 use Rattle.lexer.specs.declared.location.LOC.{LOC}
 use Rattle.lexer.specs.Tokens.{Lexeme, lexeme}
 use Rattle.ast.specs.Lists.{maps, opt}
-use Rattle.ast.specs.Ast.{
-  FieldType,
-  CommonType,
-  ListType,
-  SetType,
-  MapType,
-  FieldInitialValue,
-  ConstValue,
-  ConstList,
-  ConstMap,
-  Elements,
-  nil,
-  cons,
-  Properties,
-  pnil,
-  pcons,
-  Annotation,
-  annotation,
-  Annotations,
-  absent,
-  annotations,
-  default,
-  Field,
-  field,
-  EnumMember,
-  member,
-  Function,
-  function,
-  Definition,
-  Include,
-  CppInclude,
-  Namespace,
-  Const,
-  Typedef,
-  Enum,
-  structure,
-  Service,
-}
+use Rattle.ast.specs.Ast.{FieldType, CommonType, ListType, SetType, MapType, FieldInitialValue, ConstValue, ConstList, ConstMap, Elements, nil, cons, Properties, pnil, pcons, Annotation, annotation, Annotations, absent, annotations, Field, field, EnumMember, member, Function, function, Definition, Include, CppInclude, Namespace, Const, Typedef, Enum, structure, Service}
 
 -- ---- places forgotten
 

@@ -1,26 +1,7 @@
 -- What rico's write_param drops of parameters and thrown fields: comments, requiredness, annotations. Assumes nothing: these are definitions.
-use mathlib.Core.List.{List, []}
+use mathlib.Core.List.{[]}
 use Rattle.ast.specs.Lists.{maps, opt}
-use Rattle.ast.specs.Ast.{
-  Annotations,
-  absent,
-  Required,
-  default,
-  Field,
-  field,
-  Function,
-  function,
-  Structure,
-  Definition,
-  Include,
-  CppInclude,
-  Namespace,
-  Const,
-  Typedef,
-  Enum,
-  structure,
-  Service,
-}
+use Rattle.ast.specs.Ast.{absent, default, Field, field, Function, function, Definition, Include, CppInclude, Namespace, Const, Typedef, Enum, structure, Service}
 
 unfoldable pub dropField : Field → Field
 dropField (field l c i r t n v a) = field l [] i default t n v absent

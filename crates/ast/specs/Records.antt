@@ -1,7 +1,7 @@
 -- Document 01's records: trees laid out as rows of numbers, and the tables that hold them. Assumes nothing: these are definitions.
-use mathlib.Core.Bool.{Bool, true, false, cond}
+use mathlib.Core.Bool.{cond}
 use mathlib.Core.List.{List, [], _∷_, _++_}
-use Prim.Native.Nat.{ℕ, zero, suc, _+_, _-_, _*_, _/_}
+use Prim.Native.Nat.{ℕ, suc, _+_, _-_, _/_}
 use lib.ListN.{length, replicate}
 use Rattle.token.specs.Code.{is}
 use Rattle.token.specs.declared.Token.the-variants as T

@@ -4,10 +4,8 @@
 --     demand-3       all of it, for every text, indent and list of calls
 -- Assumes nothing.
 use mathlib.Core.Path.{_≡_, refl, sym, ap, _∙_}
-use mathlib.Core.Bool.{Bool, true, false}
-use mathlib.Core.List.{List, [], _∷_}
-use Prim.Native.Nat.{ℕ, _≤_}
-use lib.ListN.{length}
+use mathlib.Core.List.{List, []}
+use Prim.Native.Nat.{ℕ}
 use Rattle.token.specs.Breaks.{Bytes}
 use Rattle.lexer.specs.Check.{limit}
 use Rattle.lexer.specs.Location.{opening}
@@ -18,16 +16,15 @@ use Rattle.ast.specs.Numbered.{Numbered}
 use Rattle.ast.specs.Drop.{dropParams}
 use Rattle.ast.proofs.Forget.{nowhere, bares, forget}
 use Rattle.ast.proofs.Drops.{drop-forget, drop-twice}
-use Rattle.parser.specs.Steps.{St, pos, Res, ok, no}
+use Rattle.parser.specs.Steps.{pos}
 use Rattle.parser.specs.Definitions.{parseDocument}
 use Rattle.parser.specs.Read.{read, outcome}
 use Rattle.writer.specs.Print.{printed}
 use Rattle.writer.proofs.Places.{print-forget, print-drop}
-use Rattle.file.specs.Agree.{Agree}
-use Rattle.file.specs.Demand.{Accepts, Premise, Fixed, Alike, Demand3}
-use Rattle.file.proofs.Printed.{Again, well-read, print-reads, print-again, results}
+use Rattle.file.specs.Demand.{Premise, Fixed, Alike, Demand3}
+use Rattle.file.proofs.Printed.{well-read, print-reads, print-again, results}
 use Rattle.file.proofs.Agreement.{agree-of-same, same-of-agree}
-use Rattle.file.proofs.Steps.{Both, accepts-reads, reads-accepts, stays-calls}
+use Rattle.file.proofs.Steps.{accepts-reads, reads-accepts, stays-calls}
 
 -- what the same tree but for places is, once the drop is made in both
 dropped-same : (xs ds : List Definition) → forget xs ≡ forget (maps dropParams ds) → forget (maps dropParams xs) ≡ forget (maps dropParams ds)

@@ -1,26 +1,23 @@
 -- The tokens of a text that passes 20 to 22: each is one by itself, and well formed.
 --     good-tokens   for every such text
 -- Assumes nothing.
-use mathlib.Core.Path.{_≡_, refl, sym, ap, _∙_}
+use mathlib.Core.Path.{_≡_, refl}
 use mathlib.Core.Bool.{Bool, true, false, cond}
 use mathlib.Core.List.{List, [], _∷_}
-use mathlib.Core.Option.{Option, some, none}
-use Prim.Native.Nat.{ℕ, zero, suc, _+_, _<_, _≤_}
+use Prim.Native.Nat.{ℕ, zero, suc, _≤_}
 use native.Mathlib.Omega.{arith}
 use lib.ListN.{length, take, drop, length-drop}
 use lib.Seq.{length-take-le}
 use Rattle.token.specs.Scan.{scan}
 use Rattle.token.specs.Breaks.{Bytes}
-use Rattle.token.specs.declared.Token.{Token}
 use Rattle.token.specs.declared.Scan.{Scan}
 use Rattle.token.specs.declared.Scan.the-variants.{Miss, Hit}
 use Rattle.token.proofs.Stable.{alone, bytes-take}
 use Rattle.lexer.specs.declared.location.Lexer.{Lexer}
 use Rattle.lexer.specs.declared.Checked.the-variants as C
-use Rattle.lexer.specs.Utf8.{WellFormed}
-use Rattle.lexer.specs.Cuts.{Cuts, end, stuck, cut, cuts, unrecognized}
+use Rattle.lexer.specs.Cuts.{Cuts, end, stuck, cut, cuts}
 use Rattle.lexer.specs.Location.{pass, between, opening}
-use Rattle.lexer.specs.Tokens.{Lexeme, lexeme, skipped, lexemes, tokens}
+use Rattle.lexer.specs.Tokens.{lexeme, skipped, lexemes, tokens}
 use Rattle.lexer.specs.Check.{checked}
 use Rattle.lexer.proofs.CutLaws.{hit-fits, cuts-nil, cuts-miss, cuts-hit}
 use Rattle.lexer.proofs.Ascii.{Well, well-cuts, fine-means}

@@ -3,23 +3,22 @@
 -- Assumes nothing.
 use mathlib.Core.Path.{_≡_, refl, sym, ap, _∙_}
 use mathlib.Core.Bool.{Bool, true, false, cond, _||_, or-false, or-assoc}
-use mathlib.Core.List.{List, [], _∷_, _++_}
+use mathlib.Core.List.{List, [], _∷_}
 use Prim.Native.Nat.{ℕ, _≤_}
 use native.Mathlib.Omega.{arith}
-use lib.Dec.{ltb, leb}
+use lib.Dec.{ltb}
 use lib.ListN.{length, take}
 use borrow.Author.Tests.{le-leb}
 use Rattle.lexer.specs.Check.{limit}
 use Rattle.ast.specs.Ast.{Definition}
 use Rattle.ast.specs.Records.{nodeRows, notes, room}
 use Rattle.writer.specs.Print.{printed}
-use Rattle.writer.specs.declared.Printed.{Printed}
 use Rattle.writer.specs.declared.Printed.the-variants.{Accepted, Refused}
 use Rattle.writer.specs.Write as W
-use Rattle.file.specs.Calls.{Call, reads, prints, Given, has-read, has-printed, gives, kept, leaves, Entry, entry, trace}
-use Rattle.file.specs.Demand.{Accepts, answers, printsIt, Premise}
+use Rattle.file.specs.Calls.{Given, gives, kept, leaves, trace}
+use Rattle.file.specs.Demand.{Accepts, answers, printsIt}
 use Rattle.file.specs.Agree.{Agree}
-use Rattle.file.specs.Run.{Request, ask, Memory, callOf, keptIn, settled, after, runs, callsOf, anyPrint, Kept, Unaltered}
+use Rattle.file.specs.Run.{Request, ask, Memory, callOf, keptIn, settled, after, runs, callsOf, anyPrint, Unaltered}
 use Rattle.file.proofs.Steps.{file, found, given, onward, file-print}
 use Rattle.file.proofs.Demand.{print-fixed, demand-3}
 

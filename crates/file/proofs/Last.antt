@@ -1,10 +1,10 @@
 -- The last token of a print does not end at offset 1: each definition has a keyword, and a keyword is longer than one byte.
 --     print-far     for every list of definitions
 -- Assumes nothing.
-use mathlib.Core.Path.{_≡_, refl, sym, ap, _∙_}
+use mathlib.Core.Path.{_≡_, refl, ap, _∙_}
 use mathlib.Core.Bool.{Bool, true, false, cond, false≢true}
 use mathlib.Core.List.{List, [], _∷_}
-use Prim.Native.Nat.{ℕ, zero, suc, _+_, _<_, _≤_}
+use Prim.Native.Nat.{ℕ, _≤_}
 use native.Mathlib.Omega.{arith}
 use borrow.Author.Tests.{ne-eqb}
 use lib.Dec.{eqb}
@@ -17,12 +17,12 @@ use Rattle.lexer.specs.Cuts.{Cuts, end, stuck, cut}
 use Rattle.lexer.specs.Location.{pass, spanOf, between}
 use Rattle.lexer.specs.Tokens.{Lexeme, lexeme, skipped, lexemes}
 use Rattle.lexer.proofs.CutLaws.{pass-at}
-use Rattle.ast.specs.Ast.{Definition, Include, CppInclude, Namespace, Const, Typedef, Enum, structure, Service, Structure, Struct, Union, Exception}
-use Rattle.ast.proofs.Forget.{nowhere, bareL, bares}
-use Rattle.parser.specs.Steps.{place, bytes}
+use Rattle.ast.specs.Ast.{Definition, Include, CppInclude, Namespace, Const, Typedef, Enum, structure, Service, Struct, Union, Exception}
+use Rattle.ast.proofs.Forget.{bareL, bares}
+use Rattle.parser.specs.Steps.{place}
 use Rattle.parser.proofs.Sure.{final}
 use Rattle.parser.proofs.Ended.{Far}
-use Rattle.writer.specs.Print.{Piece, gap, word, note, keyword, writeComment, writeComments, structureKeyword, writeDefinition, writeEach, nothing, pieces}
+use Rattle.writer.specs.Print.{Piece, keyword, writeComment, writeComments, structureKeyword, writeDefinition, writeEach, pieces}
 use Rattle.writer.proofs.Toks.{toks}
 use Rattle.writer.proofs.Back.{coreDefinition, notesDefinition, write-definition}
 

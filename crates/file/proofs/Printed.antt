@@ -8,8 +8,8 @@
 -- Assumes nothing.
 use mathlib.Core.Path.{_≡_, refl, sym, ap, _∙_}
 use mathlib.Core.Bool.{Bool, true, false, false≢true}
-use mathlib.Core.List.{List, [], _∷_}
-use Prim.Native.Nat.{ℕ, _<_, _≤_}
+use mathlib.Core.List.{List, []}
+use Prim.Native.Nat.{ℕ, _≤_}
 use lib.ListN.{length}
 use Rattle.token.specs.Breaks.{Bytes}
 use Rattle.lexer.specs.declared.Checked.{Checked}
@@ -28,11 +28,11 @@ use Rattle.parser.specs.Definitions.{parseDocument}
 use Rattle.parser.specs.Read.{Outcome, read, refused, parsed, answered, outcomeBy, outcome}
 use Rattle.ast.specs.Numbered.{Numbered}
 use Rattle.parser.proofs.Wf.{WfDefinition, most}
-use Rattle.parser.proofs.Sure.{Some, Read, GoodS, good, Sure, final, sure-ok, both, document-s}
+use Rattle.parser.proofs.Sure.{Some, Read, good, final, sure-ok, both, document-s}
 use Rattle.parser.proofs.Same.{bareS, bareR}
 use Rattle.parser.proofs.Ended.{Far, parse-same}
 use Rattle.writer.specs.Print.{pieces, printed}
-use Rattle.writer.proofs.Toks.{Good, toks}
+use Rattle.writer.proofs.Toks.{Good}
 use Rattle.writer.proofs.Lexes.{lexes, fine-print}
 use Rattle.writer.proofs.Apart.{pieces-apart}
 use Rattle.writer.proofs.Back.{document-rt}

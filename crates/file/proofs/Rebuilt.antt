@@ -3,7 +3,7 @@
 --     rebuild-back   after the drop of what parameters drop
 -- Assumes nothing.
 use mathlib.Core.Path.{_≡_, refl, sym, ap, _∙_}
-use mathlib.Core.Bool.{Bool, true, false, cond, not, _||_}
+use mathlib.Core.Bool.{Bool, true, false, cond, not}
 use mathlib.Core.List.{List, [], _∷_}
 use mathlib.Core.Option.{Option, some, none}
 use Prim.Native.Nat.{ℕ, suc, _+_, _<_}
@@ -14,7 +14,7 @@ use lib.ListN.{length}
 use lib.Seq.{take-all}
 use Rattle.token.specs.Regex.{bytes as ascii}
 use Rattle.token.specs.Patterns.{token, words, marks, shapes, wordRule, rest}
-use Rattle.token.specs.Code.{code, is, among}
+use Rattle.token.specs.Code.{code, is}
 use Rattle.token.specs.Words.{same}
 use Rattle.token.specs.declared.Token.{Token}
 use Rattle.token.specs.declared.Token.the-variants as T

@@ -6,10 +6,10 @@
 -- Assumes nothing.
 use mathlib.Core.Path.{_≡_, refl, sym, ap, _∙_}
 use mathlib.Core.Bool.{Bool, true, false, cond, _||_, false≢true}
-use mathlib.Core.List.{List, [], _∷_, _++_}
-use Prim.Native.Nat.{ℕ, suc, zero, _-_}
+use mathlib.Core.List.{List, [], _∷_}
+use Prim.Native.Nat.{ℕ}
 use lib.Dec.{ltb}
-use lib.ListN.{length, take, replicate}
+use lib.ListN.{length}
 use lib.Seq.{take-append-seam}
 use Rattle.lexer.specs.declared.Checked.{Checked}
 use Rattle.lexer.specs.declared.Checked.the-variants as C
@@ -19,12 +19,11 @@ use Rattle.ast.specs.Records.{nodeRows, notes, room}
 use Rattle.parser.specs.Read as R
 use Rattle.parser.specs.Read.{Outcome, read, refused, outcome, outcomeBy, reading, rowsBy}
 use Rattle.writer.specs.Print.{printed}
-use Rattle.writer.specs.declared.Printed.{Printed}
 use Rattle.writer.specs.declared.Printed.the-variants.{Accepted, Refused}
 use Rattle.writer.specs.Write as W
 use Rattle.writer.specs.Write.{widest, outcomeAt, printing, printOf}
 use Rattle.file.specs.Agree.{Agree}
-use Rattle.file.specs.Calls.{Call, reads, prints, Given, has-read, has-printed, gives, kept, leaves, Entry, entry, trace}
+use Rattle.file.specs.Calls.{Call, reads, prints, gives, kept, leaves, trace}
 use Rattle.file.specs.Demand.{Accepts, answers, accepts, printsIt, Step, Stays, end, call}
 
 -- ---- acceptance at an indent

@@ -11,12 +11,12 @@ use Rattle.ast.specs.Lists.{All}
 use Rattle.ast.specs.Numbered.{Numbered}
 use Rattle.ast.specs.Records.{nodeRows, notes}
 use Rattle.parser.specs.Read as R
-use Rattle.parser.specs.Read.{Outcome, read, outcome, Reading}
+use Rattle.parser.specs.Read.{read, outcome}
 use Rattle.writer.specs.Print.{printed}
 use Rattle.writer.specs.declared.Printed.{Printed}
 use Rattle.writer.specs.declared.Printed.the-variants.{Accepted, Refused}
 use Rattle.writer.specs.Write as W
-use Rattle.writer.specs.Write.{Printing, outcomeAt}
+use Rattle.writer.specs.Write.{outcomeAt}
 use Rattle.file.specs.Agree.{Agree}
 use Rattle.file.specs.Calls.{Call, reads, prints, Given, has-read, has-printed, leaves, Entry, entry, trace}
 

@@ -3,21 +3,21 @@
 --     well-cuts     the lexemes of a text that is cut to its end
 --     fine-tokens   the tokens of a text that the check finds fine
 -- Assumes nothing.
-use mathlib.Core.Path.{_≡_, refl, sym, ap, _∙_, subst}
+use mathlib.Core.Path.{_≡_, refl}
 use mathlib.Core.Logic.{⊎-elim}
 use mathlib.Core.Bool.{Bool, true, false, cond}
 use mathlib.Core.List.{List, [], _∷_, _++_}
 use mathlib.Core.Option.{Option, some, none}
-use Prim.Native.Nat.{ℕ, zero, suc, _+_, _-_, _<_, _≤_}
+use Prim.Native.Nat.{ℕ, zero, suc, _+_, _<_, _≤_}
 use native.Mathlib.Omega.{arith}
 use borrow.Author.Tests.{le-ltb}
 use lib.Dec.{T, eqb, ltb, eqb→eq}
 use lib.ListN.{length, getD, take, drop, length-drop, take-append-drop}
-use Rattle.token.specs.Scan.{scan, keep}
+use Rattle.token.specs.Scan.{scan}
 use Rattle.token.specs.Tables.{classes}
 use Rattle.token.specs.Run.{classOf}
 use Rattle.token.specs.Breaks.{Bytes}
-use Rattle.token.specs.Automaton.{start, dead, step, openings, longest, Reached}
+use Rattle.token.specs.Automaton.{step, openings}
 use Rattle.token.specs.declared.Token.{Token}
 use Rattle.token.specs.declared.Scan.{Scan}
 use Rattle.token.specs.declared.Scan.the-variants.{Miss, Hit}
@@ -29,12 +29,12 @@ use Rattle.token.proofs.Words.{scan-plain}
 use Rattle.token.proofs.Trie.{no-word-first}
 use Rattle.lexer.specs.declared.location.Lexer.{Lexer}
 use Rattle.lexer.specs.declared.Checked.the-variants as C
-use Rattle.lexer.specs.Utf8.{illFormed, WellFormed}
+use Rattle.utf8.specs.Utf8.{illFormed, WellFormed}
 use Rattle.lexer.specs.Cuts.{Cuts, end, stuck, cut, cuts, unrecognized}
 use Rattle.lexer.specs.Location.{pass, between, opening}
 use Rattle.lexer.specs.Tokens.{Lexeme, lexeme, skipped, lexemes, tokens}
 use Rattle.lexer.specs.Check.{limit, verdict, checked}
-use Rattle.lexer.proofs.Utf8Laws.{Starts, well-left, well-right}
+use Rattle.utf8.proofs.Utf8Laws.{Starts, well-left, well-right}
 use Rattle.lexer.proofs.CutLaws.{hit-fits, cuts-nil, cuts-miss, cuts-hit}
 use Rattle.lexer.proofs.CheckLaws.{fine-fits}
 

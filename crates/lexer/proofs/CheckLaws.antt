@@ -1,31 +1,20 @@
 -- What the whole-text check finds. Assumes nothing.
-use mathlib.Core.Path.{_≡_, refl, sym, ap, _∙_}
+use mathlib.Core.Path.{_≡_, refl, sym}
 use mathlib.Core.Bool.{Bool, true, false, cond}
 use mathlib.Core.List.{List}
-use mathlib.Core.Option.{Option, some, none}
 use Prim.Native.Nat.{ℕ, _<_, _≤_}
 use borrow.Author.Tests.{lt-ltb, le-ltb, ltb-false}
 use native.Mathlib.Omega.{arith}
 use lib.Dec.{ltb}
 use lib.ListN.{length}
-use Rattle.lexer.specs.declared.Found.{Found}
-use Rattle.lexer.specs.declared.Found.the-variants.{At, Nowhere}
+use Rattle.utf8.specs.declared.Found.the-variants.{At, Nowhere}
 use Rattle.lexer.specs.declared.Checked.{Checked}
 use Rattle.lexer.specs.declared.Checked.the-variants as C
-use Rattle.lexer.specs.Found.{found}
-use Rattle.lexer.specs.Utf8.{illFormed}
+use Rattle.utf8.specs.Found.{found}
+use Rattle.utf8.proofs.FoundLaws.{found-at, found-none}
+use Rattle.utf8.specs.Utf8.{illFormed}
 use Rattle.lexer.specs.Cuts.{cuts, unrecognized}
 use Rattle.lexer.specs.Check.{limit, verdict, checked}
-
-pub found-at : (o : Option ℕ) (p : ℕ) → found o ≡ At p → o ≡ some p
-unfolding found
-found-at (some q) p e = cc
-found-at none p e = cc
-
-pub found-none : (o : Option ℕ) → found o ≡ Nowhere → o ≡ none
-unfolding found
-found-none (some q) e = cc
-found-none none e = refl
 
 module _ (t : List ℕ) where
   pub too-long : 65536 < length t → checked t ≡ C.TooLong

@@ -4,22 +4,20 @@
 --     next-hit      the next token, blanks passed
 -- Assumes nothing.
 use mathlib.Core.Path.{_≡_, refl, sym, ap, _∙_, subst}
-use mathlib.Core.Bool.{Bool, true, false, cond}
-use mathlib.Core.List.{List, [], _∷_, _++_}
-use mathlib.Core.Option.{Option, some, none}
+use mathlib.Core.Bool.{Bool, cond}
+use mathlib.Core.List.{List, [], _∷_}
+use mathlib.Core.Option.{some, none}
 use Prim.Native.Nat.{ℕ, zero, suc, _+_, _-_, _<_, _≤_}
 use native.Mathlib.Omega.{arith}
-use lib.ListN.{length, take, drop, length-take, length-drop, drop-of-length-le}
+use lib.ListN.{length, take, drop, length-drop, drop-of-length-le}
 use lib.Seq.{drop-drop, drop-nil, length-take-le, take-all}
 use Rattle.token.specs.Scan.{scan}
 use Rattle.token.specs.Match.{Longest}
 use Rattle.token.specs.declared.Token.{Token}
-use Rattle.token.specs.declared.Scan.{Scan}
 use Rattle.token.specs.declared.Scan.the-variants.{Miss, Hit}
 use Rattle.token.proofs.Meaning.{scan-longest}
 use Rattle.lexer.proofs.PlaceLaws.{behind-at}
 use Rattle.lexer.specs.declared.location.Lexer.{Lexer}
-use Rattle.lexer.specs.declared.location.Next.{Next}
 use Rattle.lexer.specs.declared.location.Next.the-variants as N
 use Rattle.lexer.specs.Cuts.{Cuts, end, stuck, cut, cutAt, cutsFrom, cuts, unrecognized}
 use Rattle.lexer.specs.Location.{pass, between, behind, endsLine}

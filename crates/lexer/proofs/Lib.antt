@@ -1,12 +1,3 @@
-pub mod Utf8Laws
-pub mod Utf8Cases
-pub mod Arms
-pub mod RunLaws
-pub mod UntilLaws
-pub mod Spins
-pub mod ScanLaws
-pub mod WordLaws
-pub mod MarkLaws
 pub mod CutLaws
 pub mod PlaceLaws
 pub mod CheckLaws

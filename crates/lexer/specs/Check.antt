@@ -5,7 +5,7 @@ use mathlib.Core.List.{List, [], _∷_}
 use mathlib.Core.Option.{Option, some, none}
 use lib.Dec.{ltb}
 use lib.ListN.{length}
-use Rattle.lexer.specs.Utf8.{illFormed}
+use Rattle.utf8.specs.Utf8.{illFormed}
 use Rattle.lexer.specs.Cuts.{cuts, unrecognized}
 use Rattle.lexer.specs.declared.Checked.{Checked}
 use Rattle.lexer.specs.declared.Checked.the-variants as C

@@ -1,15 +1,11 @@
 // The lexer: from any byte string to its tokens, proved.
 pub mod location;
-pub mod scan;
-pub mod table;
-pub mod utf8;
-mod words;
 
 ghost use mathlib.Core.Path.{_≡_};
 ghost use Prim.Native.Nat.{_≤_};
 ghost use lib.ListN.{length, drop};
 ghost use Rattle.token.specs.Tables.{classes, trie as nodes};
-ghost use Rattle.lexer.specs.Found.{found};
+ghost use Rattle.utf8.specs.Found.{found};
 ghost use Rattle.lexer.specs.Cuts.{cuts, unrecognized};
 ghost use Rattle.lexer.specs.Location.{Placed};
 ghost use Rattle.lexer.specs.Tokens.{skipped, next};
@@ -19,6 +15,7 @@ use location::Next;
 use location::ParserToken;
 use token::Scan;
 use token::Token;
+use utf8::Found;
 
 // The longest text that is read.
 pub const LIMIT: usize = 65536;
@@ -32,12 +29,6 @@ pub enum Checked {
     IllFormed(usize),
     // no token starts at this offset
     Unrecognized(usize),
-}
-
-// An offset that a search finds.
-pub enum Found {
-    At(usize),
-    Nowhere,
 }
 
 // Blanks and line ends are no tokens for the parser.
@@ -103,8 +94,8 @@ pub fn check(text: &[u8]) -> Checked
     if let Found::At(at) = utf8::ill_formed(text) {
         return Checked::IllFormed(at);
     }
-    let class = table::CLASS;
-    let trie = table::WORDS;
+    let class = scan::table::CLASS;
+    let trie = scan::table::WORDS;
     match unrecognized(&class, &trie, text, 0) {
         Found::At(at) => Checked::Unrecognized(at),
         Found::Nowhere => Checked::Fine,

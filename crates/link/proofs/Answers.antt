@@ -1,10 +1,8 @@
 -- An answer as its numbers. Assumes nothing.
 use mathlib.Core.Path.{_≡_, refl, sym, ap, _∙_}
-use mathlib.Core.Bool.{cond}
-use mathlib.Core.List.{List, [], _∷_, _++_}
+use mathlib.Core.List.{List, [], _∷_}
 use Prim.Native.Nat.{ℕ, _≤_, _<_}
 use native.Mathlib.Omega.{arith}
-use lib.Dec.{ltb}
 use lib.ListN.{length, set, drop}
 use borrow.Author.Tests.{lt-ltb, le-ltb}
 use Rattle.parser.specs.declared.Answer.{Answer}

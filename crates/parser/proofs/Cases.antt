@@ -1,5 +1,5 @@
 -- The table of edges holds, by computation. Assumes nothing.
-use mathlib.Core.Path.{_≡_, refl}
+use mathlib.Core.Path.{refl}
 use Rattle.token.specs.Code.{code, is, among}
 use Rattle.token.specs.Regex.{bytes, ranges, within, nullable, isNothing, then, or, deriv}
 use Rattle.token.specs.Patterns.{
@@ -24,7 +24,7 @@ use Rattle.token.specs.Patterns.{
   rules,
 }
 use Rattle.token.specs.Scan.{derivs, first, keep, scanFrom, scan}
-use Rattle.lexer.specs.Utf8.{tail, sequences, begins, width, sequence, illFrom, illFormed}
+use Rattle.utf8.specs.Utf8.{tail, sequences, begins, width, sequence, illFrom, illFormed}
 use Rattle.lexer.specs.Cuts.{cutAt, cutsFrom, cuts, unrecognized}
 use Rattle.lexer.specs.Location.{endsLine, behind, pass, spanOf, between, opening}
 use Rattle.lexer.specs.Tokens.{skipped, lexemes, tokens}

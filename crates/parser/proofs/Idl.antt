@@ -3,7 +3,7 @@
 -- type-derived, value-derived: what is read is derived by such a run, and s is the state behind it.
 -- types-exactly, values-exactly: both, as one statement each. Assumes nothing.
 use mathlib.Core.Path.{_≡_, refl}
-use mathlib.Core.Bool.{Bool, true, false, cond, _||_, false≢true}
+use mathlib.Core.Bool.{Bool, true, false, cond, false≢true}
 use mathlib.Core.List.{List, [], _∷_}
 use mathlib.Core.Logic.{_↔_}
 use Prim.Native.Nat.{ℕ, suc, zero, _<_, _≤_}

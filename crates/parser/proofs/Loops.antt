@@ -2,7 +2,7 @@
 use mathlib.Core.Path.{_≡_}
 use mathlib.Core.Bool.{Bool, true, false}
 use Prim.Native.Nat.{ℕ, suc}
-use Rattle.parser.specs.Steps.{St, Res, ok, P, bind, test, loop}
+use Rattle.parser.specs.Steps.{St, ok, P, bind, test, loop}
 
 module _ {A B : Type 0} (none : B) (some : A → B → B) (end : P Bool) (p : P A) (n : ℕ) (s : St) where
   pub loop-end : (u : St) → end s ≡ ok true u → loop none some end p (suc n) s ≡ ok none u

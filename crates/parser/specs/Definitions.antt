@@ -2,9 +2,8 @@
 use mathlib.Core.Bool.{Bool, true, false, cond, not, _&&_}
 use mathlib.Core.List.{List, [], _∷_}
 use mathlib.Core.Option.{Option, some, none}
-use Prim.Native.Nat.{ℕ, suc, zero, _+_, _*_, _-_, _^_}
+use Prim.Native.Nat.{ℕ, _+_, _*_, _-_, _^_}
 use lib.Dec.{eqb, ltb}
-use Rattle.token.specs.Code.{is, among}
 use Rattle.token.specs.declared.Token.{Token}
 use Rattle.token.specs.declared.Token.the-variants as T
 use Rattle.lexer.specs.declared.location.LOC.{LOC}
@@ -42,36 +41,7 @@ use Rattle.ast.specs.Ast.{
   structure,
   Service,
 }
-use Rattle.parser.specs.Steps.{
-  St,
-  pos,
-  Res,
-  ok,
-  P,
-  bind,
-  _>>=_,
-  _>>_,
-  pure,
-  test,
-  kind,
-  bytes,
-  place,
-  span,
-  when,
-  next,
-  want,
-  fail,
-  start,
-  here,
-  taken,
-  refuse,
-  skip-separator,
-  skip-comments,
-  skip-comments-discard,
-  skip-trivia,
-  closed,
-  many,
-}
+use Rattle.parser.specs.Steps.{pos, ok, P, pure, test, bytes, place, span, when, next, want, fail, start, here, taken, refuse, skip-separator, skip-comments, skip-comments-discard, skip-trivia, closed, many}
 use Rattle.parser.specs.Types.{fieldType}
 use Rattle.parser.specs.Values.{fieldValue}
 

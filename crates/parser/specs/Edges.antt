@@ -4,7 +4,6 @@ use Prim.Native.String.{String}
 use mathlib.Core.Path.{_≡_}
 use mathlib.Core.List.{List, [], _∷_}
 use Rattle.token.specs.Regex.{bytes}
-use Rattle.ast.specs.Ast.{Definition}
 use Rattle.ast.specs.Records.{nodeRows, notes}
 use Rattle.parser.specs.Read.{Outcome, read, refused, outcome}
 

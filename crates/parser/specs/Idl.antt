@@ -1,7 +1,7 @@
 -- Types and constant values as Apache's Thrift IDL has them: productions [23] to [35] over lexemes, as derivations. Assumes nothing: these are definitions.
 -- `X ts x e r`: the tokens ts begin with a run that derives x, whose last token is at e, and r is left behind it.
 -- Each departure of rico is marked (docs/DIFFERENCES.md has its smallest text).
-use mathlib.Core.List.{List, [], _∷_}
+use mathlib.Core.List.{List, _∷_}
 use Prim.Native.Nat.{ℕ, suc}
 use Rattle.token.specs.declared.Token.{Token}
 use Rattle.token.specs.declared.Token.the-variants as T

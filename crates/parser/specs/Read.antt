@@ -1,5 +1,5 @@
 -- Reading as a whole: every row of document 01's table up to 25, for any text and any two tables. Assumes nothing: these are definitions.
-use mathlib.Core.Bool.{Bool, true, false, cond}
+use mathlib.Core.Bool.{cond}
 use mathlib.Core.List.{List, [], _∷_}
 use Prim.Native.Nat.{ℕ, _-_}
 use lib.Dec.{eqb, ltb}
@@ -8,7 +8,7 @@ use Rattle.lexer.specs.declared.Checked.{Checked}
 use Rattle.lexer.specs.declared.Checked.the-variants as C
 use Rattle.lexer.specs.declared.location.LOC.{LOC}
 use Rattle.lexer.specs.Location.{between, opening}
-use Rattle.lexer.specs.Tokens.{Lexeme, tokens}
+use Rattle.lexer.specs.Tokens.{tokens}
 use Rattle.lexer.specs.Check.{checked}
 use Rattle.ast.specs.Ast.{Definition}
 use Rattle.ast.specs.Records.{nodeRows, notes, room, filled, cleared}

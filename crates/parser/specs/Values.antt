@@ -1,5 +1,5 @@
 -- Constant values: rico's parser/values.rs. Assumes nothing: these are definitions.
-use mathlib.Core.Bool.{Bool, true, false}
+use mathlib.Core.Bool.{Bool}
 use mathlib.Core.List.{List, [], _∷_}
 use Prim.Native.Nat.{ℕ, suc, zero}
 use Rattle.token.specs.Code.{is, among}
@@ -7,28 +7,8 @@ use Rattle.token.specs.declared.Token.{Token}
 use Rattle.token.specs.declared.Token.the-variants as T
 use Rattle.lexer.specs.declared.location.LOC.{LOC}
 use Rattle.lexer.specs.Tokens.{Lexeme}
-use Rattle.ast.specs.Ast.{FieldInitialValue, ConstValue, ConstList, ConstMap, Elements, nil, cons, Properties, pnil, pcons}
-use Rattle.parser.specs.Steps.{
-  Res,
-  P,
-  bind,
-  _>>=_,
-  _>>_,
-  pure,
-  test,
-  kind,
-  place,
-  span,
-  next,
-  want,
-  start,
-  here,
-  refuse,
-  skip-separator,
-  skip-comments-discard,
-  closed,
-  many,
-}
+use Rattle.ast.specs.Ast.{FieldInitialValue, ConstValue, ConstList, ConstMap, nil, cons, Properties, pnil, pcons}
+use Rattle.parser.specs.Steps.{P, pure, test, kind, place, span, next, want, start, here, refuse, skip-separator, skip-comments-discard, closed, many}
 
 abbrev pub leafValues : List Token
 leafValues = T.StringLiteral ∷ T.IntegerLiteral ∷ T.DoubleLiteral ∷ T.BooleanLiteral ∷ T.HexLiteral ∷ T.Identifier ∷ []

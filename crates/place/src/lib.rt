@@ -2,8 +2,7 @@
 use lexer::location;
 use lexer::location::Lexer;
 use lexer::location::Span;
-use lexer::scan;
-use lexer::table;
+use scan::table;
 use token::Scan;
 use token::Token;
 ghost use mathlib.Core.Path.{_≡_};

@@ -3,61 +3,38 @@
 --     written-means             the tables of an accepted reading are written as the print
 --     print-means               the whole, for any text, indent, tables and output
 -- Assumes nothing.
-use mathlib.Core.Path.{_≡_, refl, sym, ap, ap₂, _∙_}
-use mathlib.Core.Logic.{_⊎_, inl, inr, ⊎-elim}
+use mathlib.Core.Path.{_≡_, refl, sym, ap, _∙_}
+use mathlib.Core.Logic.{inl, ⊎-elim}
 use mathlib.Core.Bool.{Bool, true, false, cond}
 use mathlib.Core.Option.{Option, some, none}
 use mathlib.Core.List.{List, [], _∷_, _++_, append-nil, append-assoc}
-use Prim.Native.Nat.{ℕ, zero, suc, _+_, _*_, _-_, _/_, _≤_, _<_}
+use Prim.Native.Nat.{ℕ, suc, _+_, _*_, _-_, _/_, _≤_, _<_}
 use native.Mathlib.Omega.{arith}
 use lib.Dec.{ltb}
-use lib.ListN.{length, take, drop, replicate, length-append, length-drop, length-replicate}
+use lib.ListN.{length, drop, replicate, length-append, length-drop, length-replicate}
 use lib.Seq.{take-append-seam}
-use borrow.Author.Tests.{ltb-true, ltb-false, lt-ltb, le-ltb}
+use borrow.Author.Tests.{ltb-false, lt-ltb, le-ltb}
 use Rattle.lexer.specs.declared.Checked.{Checked}
 use Rattle.lexer.specs.declared.Checked.the-variants as C
 use Rattle.lexer.specs.Location.{between, opening as opened}
-use Rattle.lexer.specs.Tokens.{Lexeme, tokens}
+use Rattle.lexer.specs.Tokens.{Lexeme}
 use Rattle.lexer.specs.Check.{checked, limit, verdict}
 use Rattle.ast.specs.Lists.{All, anil, acons}
 use Rattle.ast.specs.Ast.{Definition}
 use Rattle.ast.specs.Tree.{Tree, node, Forest, bare, grown, each, definitionTree}
-use Rattle.ast.specs.Records.{
-  width,
-  noParent,
-  row,
-  size,
-  sizes,
-  rows,
-  rowsOf,
-  commentRow,
-  owned,
-  commentRows,
-  commentRowsOf,
-  forest,
-  nodeRows,
-  notes,
-  room,
-  concat,
-  filled,
-  cleared,
-}
-use Rattle.ast.proofs.Counts.{node-rows-wide, notes-wide, concat-width, filled-length, node-rows-size, cleared-same}
-use Rattle.parser.specs.Steps.{Res, ok, no, pos}
-use Rattle.parser.specs.declared.Answer.{Answer}
+use Rattle.ast.specs.Records.{width, noParent, row, size, rows, rowsOf, commentRow, owned, commentRows, commentRowsOf, forest, nodeRows, notes, room, concat, filled, cleared}
+use Rattle.ast.proofs.Counts.{node-rows-wide, notes-wide, concat-width, filled-length, cleared-same}
+use Rattle.parser.specs.Steps.{Res, ok, no}
 use Rattle.parser.specs.declared.Answer.the-variants as A
 use Rattle.parser.specs.Read as R
-use Rattle.parser.specs.Read.{Outcome, read, refused, parsed, answered, outcomeBy, outcome, rowsBy, Reading, reading}
+use Rattle.parser.specs.Read.{Outcome, read, refused, parsed, answered, outcomeBy, outcome, rowsBy, reading}
 use Rattle.steps.specs.Into.{wiped}
 use Rattle.parser.proofs.Lexemes.{Stands, tokens-stand, HasRule, tokens-ruled, EachDefinition, document-each}
 use Rattle.parser.proofs.Paid.{nodes-most, notes-most}
-use Rattle.writer.specs.Print.{Piece, bytesOf, pieces, printed}
-use Rattle.writer.specs.declared.Printed.{Printed}
+use Rattle.writer.specs.Print.{bytesOf, pieces, printed}
 use Rattle.writer.specs.declared.Printed.the-variants.{Accepted, Refused}
 use Rattle.writer.specs.Write.{widest, outcomeAt, fitted, answer, left, written, printOf, Printing, told, printing}
-use Rattle.cursor.specs.declared.Cursor.{Cursor}
-use Rattle.cursor.specs.Onto.{Reached, reached}
-use Rattle.write_definitions.specs.Onto.{documentOut}
+use Rattle.cursor.specs.Onto.{Reached}
 use Rattle.printer.specs.Onto.{opening, refusing, fits, ended, writing, byAnswer, byReading, all}
 use Rattle.write_fields.proofs.Ahead.{Rows, under, unders, ownedBefore, noted, noteds, Ahead, Fits, Over, Got, got, Job, At}
 use Rattle.write_fields.proofs.PrintedLeaves.{Good}

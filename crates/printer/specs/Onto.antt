@@ -13,7 +13,7 @@ use Rattle.steps.specs.Into.{wiped}
 use Rattle.writer.specs.declared.Printed.the-variants.{Accepted, Refused}
 use Rattle.writer.specs.Write.{Printing, told}
 use Rattle.cursor.specs.declared.Cursor.{Cursor}
-use Rattle.cursor.specs.Onto.{Reached, reached, then}
+use Rattle.cursor.specs.Onto.{Reached, reached}
 use Rattle.write_definitions.specs.Onto.{documentOut}
 
 unfoldable pub opening : Cursor

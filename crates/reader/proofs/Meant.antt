@@ -11,19 +11,19 @@ use native.Mathlib.Omega.{arith}
 use borrow.Author.Tests.{ltb-false}
 use lib.Dec.{eqb, ltb}
 use lib.ListN.{length, take, drop}
-use Rattle.lexer.specs.declared.Found.the-variants.{Nowhere}
+use Rattle.utf8.specs.declared.Found.the-variants.{Nowhere}
 use Rattle.lexer.specs.declared.location.LOC.{LOC}
 use Rattle.lexer.specs.Location.{between, opening}
 use Rattle.lexer.specs.Tokens.{Lexeme, tokens}
 use Rattle.lexer.specs.Cuts.{cuts, unrecognized}
-use Rattle.lexer.specs.Found.{found}
-use Rattle.lexer.specs.Utf8.{illFormed}
+use Rattle.utf8.specs.Found.{found}
+use Rattle.utf8.specs.Utf8.{illFormed}
 use Rattle.lexer.proofs.CheckLaws.{unknown, fine}
 use Rattle.lexer.proofs.PlaceLaws.{opening-placed}
 use Rattle.ast.specs.Lists.{anil}
 use Rattle.ast.specs.Ast.{Definition}
 use Rattle.ast.specs.Tree.{Forest, bare, single, each, definitionTree}
-use Rattle.ast.specs.Records.{width, noParent, sizes, rowsOf, owned, commentRowsOf, forest, nodeRows, notes, room, cleared}
+use Rattle.ast.specs.Records.{width, noParent, sizes, rowsOf, owned, commentRowsOf, forest, nodeRows, notes, room}
 use Rattle.ast.proofs.Counts.{
   forest-wide,
   comments-wide,

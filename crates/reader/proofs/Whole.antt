@@ -7,25 +7,23 @@
 --     ill-small, unknown-small            their places are small
 -- Assumes nothing.
 use mathlib.Core.Path.{_≡_, refl, sym, ap, ap₂, _∙_}
-use mathlib.Core.Bool.{Bool, true, false, cond}
 use mathlib.Core.List.{List, [], _∷_, _++_, append-nil}
 use mathlib.Core.Option.{Option, some, none}
 use Prim.Native.Nat.{ℕ, zero, suc, _+_, _-_, _≤_}
 use native.Mathlib.Omega.{arith}
 use lib.ListN.{length, take, drop, replicate, length-drop, length-take, drop-of-length-le}
 use borrow.Rule.Slice.PartMut.{putMid}
-use Rattle.lexer.specs.declared.location.LOC.{LOC}
 use Rattle.lexer.specs.declared.Checked.the-variants as C
 use Rattle.token.specs.Scan.{scan}
 use Rattle.token.specs.declared.Scan.{Scan}
 use Rattle.token.specs.declared.Scan.the-variants.{Miss, Hit}
-use Rattle.lexer.specs.Utf8.{width, sequences, sequence, illFrom, illFormed}
+use Rattle.utf8.specs.Utf8.{width, sequences, sequence, illFrom, illFormed}
 use Rattle.lexer.specs.Cuts.{Cuts, cutAt, cutsFrom, cuts, unrecognized}
 use Rattle.lexer.specs.Check.{checked}
-use Rattle.lexer.specs.Found.{found}
-use Rattle.lexer.specs.declared.Found.the-variants.{At, Nowhere}
+use Rattle.utf8.specs.Found.{found}
+use Rattle.utf8.specs.declared.Found.the-variants.{At, Nowhere}
 use Rattle.lexer.proofs.CutLaws.{part}
-use Rattle.lexer.proofs.CheckLaws.{found-at, found-none}
+use Rattle.utf8.proofs.FoundLaws.{found-at, found-none}
 use Rattle.ast.specs.Records.{cleared}
 use Rattle.parser.specs.declared.Answer.the-variants as A
 use Rattle.steps.specs.declared.state.State.{State}

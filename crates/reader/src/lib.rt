@@ -6,7 +6,6 @@ ghost use lib.ListN.{length};
 ghost use Rattle.parser.specs.Read.{reading, told};
 ghost use Rattle.steps.specs.Into.{Keeps, Lent, Reads, Still, restAt, shows, wiped};
 ghost use Rattle.reader.specs.Into.{restIn, overIn, betweenIn, documentIn, beginning, refusing, ended, refusingAt, fits, judged, unscanned, parsing};
-use lexer::Found;
 use lexer::location::LOC;
 use lexer::location::Lexer;
 use lexer::location::Span;
@@ -16,6 +15,7 @@ use steps::state::NONE;
 use steps::state::Parsed;
 use steps::state::State;
 use steps::table;
+use utf8::Found;
 
 // Where record `number` starts in a table.
 fn rest_of(len: usize, number: u32) -> usize
@@ -215,8 +215,8 @@ fn parse(text: &[u8], nodes: &mut [u32], comments: &mut [u32]) -> Answer
     requires { ⌜ length (now text) ≤ 65536 ⌝ }
     ensures { λ r. ⌜ told r (now (nodes .exit)) (now (comments .exit)) ≡ parsing (now (text .entry)) (now (nodes .entry)) (now (comments .entry)) ⌝ }
 {
-    let class = lexer::table::CLASS;
-    let trie = lexer::table::WORDS;
+    let class = scan::table::CLASS;
+    let trie = scan::table::WORDS;
     let st = begin(&class, &trie, text);
     let parsed = parse_document(&class, &trie, text, st, nodes, comments);
     let from = unscanned(parsed);
@@ -233,7 +233,7 @@ pub fn read(text: &[u8], nodes: &mut [u32], comments: &mut [u32]) -> Answer
     if lexer::LIMIT < text.len() {
         return refuse(20, 0, 0, nodes, comments);
     }
-    if let Found::At(at) = lexer::utf8::ill_formed(text) {
+    if let Found::At(at) = utf8::ill_formed(text) {
         return refuse(21, at as u32, 0, nodes, comments);
     }
     parse(text, nodes, comments)

@@ -22,13 +22,12 @@ use Rattle.lexer.proofs.NextLaws.{behind}
 use Rattle.lexer.specs.declared.location.Lexer.{Lexer}
 use Rattle.lexer.specs.declared.location.Next.{Next}
 use Rattle.lexer.specs.declared.location.Next.the-variants as N
-use Rattle.lexer.specs.Cuts.{Cuts, cuts}
-use Rattle.lexer.specs.Location.{pass, between, spanOf}
+use Rattle.lexer.specs.Cuts.{Cuts}
+use Rattle.lexer.specs.Location.{between, spanOf}
 use Rattle.lexer.specs.Tokens.{skipped, next}
 use Rattle.lexer.proofs.CutLaws.{hit-fits, cuts-nil, cuts-miss, cuts-hit, pass-at, next-end, next-miss, next-hit}
 use Rattle.scanner.specs.Piece.{pieceOf, pieceAt, pieceOfNext}
 use Rattle.scanner.specs.declared.Piece.{Piece}
-use Rattle.scanner.specs.declared.What.{What}
 use Rattle.scanner.specs.declared.What.the-variants as W
 
 -- ---- by a scan

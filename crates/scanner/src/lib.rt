@@ -4,8 +4,7 @@ ghost use Rattle.token.specs.Tables.{classes, trie as nodes};
 ghost use Rattle.lexer.specs.Tokens.{skipped};
 ghost use Rattle.scanner.specs.Piece.{pieceAt};
 ghost use Rattle.scanner.specs.Reader.{opened, read, behind};
-use lexer::scan;
-use lexer::table;
+use scan::table;
 use token::Scan;
 use token::Token;
 

@@ -9,7 +9,7 @@ use mathlib.Core.Logic.{⊎-elim}
 use Prim.Native.Nat.{ℕ, zero, suc, _+_, _-_, _<_, _≤_}
 use native.Mathlib.Nat.{le-of-suc-le-suc, not-suc-le-zero}
 use native.Mathlib.Omega.{arith}
-use lib.Dec.{T, ltb, ltb→lt, eqb, leb}
+use lib.Dec.{T, ltb, ltb→lt}
 use lib.ListN.{length, getD, take, drop, length-take, length-drop}
 use lib.Seq.{getD-take, getD-drop}
 use Rattle.token.specs.Regex.{Regex, nothing, empty, set, unset, seq, alt, star, within, nullable, isNothing, then, or, deriv}

@@ -10,9 +10,9 @@ use native.Mathlib.Omega.{arith}
 use native.Mathlib.Nat.{eq-or-lt-of-le}
 use lib.ListN.{length, take}
 use lib.Seq.{take-append-le, take-all}
-use Rattle.token.specs.Patterns.{Rule, rules}
+use Rattle.token.specs.Patterns.{rules}
 use Rattle.token.specs.Scan.{derivs, first, keep, scanFrom, scan}
-use Rattle.token.specs.Match.{None, NoneBeyond, First, Longest}
+use Rattle.token.specs.Match.{NoneBeyond, Longest}
 use Rattle.token.specs.Automaton.{after}
 use Rattle.token.specs.declared.Token.{Token}
 use Rattle.token.specs.declared.Scan.{Scan}

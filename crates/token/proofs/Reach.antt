@@ -10,21 +10,21 @@ use mathlib.Core.Logic.{_⊎_, inl, inr}
 use mathlib.Core.Bool.{Bool, true, false, cond, _&&_}
 use mathlib.Core.List.{List, [], _∷_}
 use mathlib.Core.Option.{Option, some, none}
-use Prim.Native.Nat.{ℕ, zero, suc, _+_, _<_, _≤_}
+use Prim.Native.Nat.{ℕ, suc, _+_, _<_, _≤_}
 use native.Mathlib.Numerals.{add-one}
-use native.Mathlib.Nat.{add-zero, zero-add}
+use native.Mathlib.Nat.{add-zero}
 use native.Mathlib.Omega.{arith}
 use borrow.Author.Tests.{leb-true, leb-false, ltb-true, ltb-false}
 use lib.Dec.{leb, ltb}
 use lib.ListN.{length, getD, drop, length-drop, drop-of-length-le}
 use lib.Seq.{drop-cons, getD-drop, drop-drop}
-use Rattle.token.specs.Patterns.{Rule, rest}
+use Rattle.token.specs.Patterns.{Rule}
 use Rattle.token.specs.Scan.{derivs, first, keep, scanFrom}
 use Rattle.token.specs.Run.{classOf, stops, before}
 use Rattle.token.specs.Automaton.{State, start, dead, rulesAt, step, kindAt, longest, Reached}
 use Rattle.token.specs.declared.Token.{Token}
 use Rattle.token.specs.declared.Scan.{Scan}
-use Rattle.token.specs.declared.Scan.the-variants.{Miss, Hit}
+use Rattle.token.specs.declared.Scan.the-variants.{Miss}
 use Rattle.token.proofs.Classes.{step-law, kind-law, class-below}
 
 -- nothing is left of the rules

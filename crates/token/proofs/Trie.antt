@@ -13,10 +13,10 @@ use Prim.Native.Nat.{ℕ, zero, suc, _+_, _<_, _≤_}
 use Prim.Native.String.{String}
 use native.Mathlib.Numerals.{add-one}
 use native.Mathlib.Omega.{arith}
-use borrow.Author.Tests.{eq-eqb, ne-eqb, eqb-true, eqb-false, lt-ltb, le-ltb, le-leb, lt-leb}
+use borrow.Author.Tests.{ne-eqb, eqb-true, eqb-false, le-ltb, lt-leb}
 use lib.Dec.{T, eqb, ltb, leb, ltb→lt}
 use lib.ListN.{length, getD, take, drop, length-take, take-append-drop}
-use lib.Seq.{getD-take, take-suc, take-append-seam, take-take, drop-cons}
+use lib.Seq.{getD-take, take-suc, take-take}
 use Rattle.token.specs.Regex.{bytes}
 use Rattle.token.specs.Patterns.{Word, word, token, words}
 use Rattle.token.specs.Tables.{classes, reps, trie, spellings}

@@ -1,36 +1,18 @@
 -- The words need no states of their own: `scan` is the longest match of the other rules, an identifier that is a word renamed.
 -- Assumes nothing.
-use mathlib.Core.Path.{_≡_, refl, sym, ap, _∙_, subst}
+use mathlib.Core.Path.{_≡_, refl, sym, ap, _∙_}
 use mathlib.Core.Logic.{_⊎_, inl, inr, ⊎-elim}
-use mathlib.Core.Bool.{Bool, true, false, cond, not, _&&_, _||_}
-use mathlib.Core.List.{List, [], _∷_, map, _++_, append-assoc, append-nil}
+use mathlib.Core.Bool.{Bool, true, false, cond, _&&_, _||_}
+use mathlib.Core.List.{List, [], _∷_, map, _++_, append-assoc}
 use mathlib.Core.Option.{Option, some, none}
-use Prim.Native.Nat.{ℕ, zero, suc, _+_, _<_, _≤_}
+use Prim.Native.Nat.{ℕ, suc}
 use native.Mathlib.Omega.{arith}
 use Rattle.token.proofs.Truth.{T-true}
-use borrow.Author.Tests.{le-leb, lt-leb, eq-eqb, ne-eqb, eqb-true, eqb-false, leb-true}
-use lib.Dec.{T, leb, eqb, eqb→eq, T-not}
+use borrow.Author.Tests.{le-leb, lt-leb, eqb-true, eqb-false, leb-true}
+use lib.Dec.{T, leb, eqb}
 use lib.ListN.{length, take, length-append}
 use lib.Seq.{take-append-seam}
-use Rattle.token.specs.Regex.{
-  Range,
-  Regex,
-  nothing,
-  empty,
-  set,
-  unset,
-  seq,
-  alt,
-  star,
-  bytes,
-  ranges,
-  within,
-  nullable,
-  isNothing,
-  then,
-  or,
-  deriv,
-}
+use Rattle.token.specs.Regex.{Range, Regex, nothing, empty, bytes, ranges, within, nullable, isNothing, then, or, deriv}
 use Rattle.token.specs.Patterns.{
   Rule,
   rule,

@@ -1,12 +1,12 @@
 -- The states of a scan, for the contracts of src/scan.rt: what is left of the rules that are no words, by the class of each byte. Assumes nothing.
-use Prim.Native.Nat.{ℕ, _+_, _-_, _<_, _≤_}
+use Prim.Native.Nat.{ℕ, _-_, _<_, _≤_}
 use mathlib.Core.Path.{_≡_}
-use mathlib.Core.Bool.{Bool, true, false, cond, _&&_, _||_}
-use mathlib.Core.List.{List, [], _∷_, map, _++_}
+use mathlib.Core.Bool.{Bool, true, false, cond, _&&_}
+use mathlib.Core.List.{List, [], _∷_}
 use mathlib.Core.Option.{Option, some, none}
 use lib.Dec.{eqb, ltb, leb}
 use lib.ListN.{length, getD, drop}
-use Rattle.token.specs.Regex.{Regex, empty, bytes as ascii, ranges, within, nullable, isNothing, then, or, deriv}
+use Rattle.token.specs.Regex.{empty, bytes as ascii, ranges, within, nullable, isNothing, then, or, deriv}
 use Rattle.token.specs.Patterns.{
   Rule,
   rule,

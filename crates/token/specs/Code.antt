@@ -1,6 +1,6 @@
 -- The number of each kind of token, its place in token.rs from 0, and what is told by it. Assumes nothing: these are definitions.
 use Prim.Native.Nat.{ℕ}
-use mathlib.Core.Bool.{Bool, true, false, _||_}
+use mathlib.Core.Bool.{Bool, false, _||_}
 use mathlib.Core.List.{List, [], _∷_}
 use lib.Dec.{eqb}
 use Rattle.token.specs.declared.Token.{Token}

@@ -4,7 +4,7 @@ use Prim.Native.Nat.{ℕ, suc}
 use mathlib.Core.Bool.{cond}
 use mathlib.Core.List.{List, [], _∷_}
 use mathlib.Core.Option.{Option, some, none}
-use Rattle.token.specs.Regex.{Regex, nullable, deriv, isNothing}
+use Rattle.token.specs.Regex.{nullable, deriv, isNothing}
 use Rattle.token.specs.Patterns.{Rule, rule, rules}
 use Rattle.token.specs.declared.Token.{Token}
 use Rattle.token.specs.declared.Scan.{Scan}

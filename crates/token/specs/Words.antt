@@ -1,6 +1,5 @@
 -- The kind of a word, and its letters followed through the trie, for the contracts of src/scan.rt. Assumes nothing: these are definitions.
 use Prim.Native.Nat.{ℕ, _+_, _<_, _≤_}
-use Prim.Native.String.{String}
 use mathlib.Core.Path.{_≡_}
 use mathlib.Core.Bool.{Bool, true, false, cond, _&&_}
 use mathlib.Core.List.{List, [], _∷_}
@@ -8,7 +7,7 @@ use lib.Dec.{eqb}
 use lib.ListN.{take, getD}
 use Rattle.token.specs.Code.{is}
 use Rattle.token.specs.Regex.{bytes}
-use Rattle.token.specs.Patterns.{Word, word, token, words}
+use Rattle.token.specs.Patterns.{Word, word, words}
 use Rattle.token.specs.Tables.{trie, spellings}
 use Rattle.token.specs.declared.Token.{Token}
 use Rattle.token.specs.declared.Token.the-variants as T

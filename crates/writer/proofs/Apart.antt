@@ -25,7 +25,7 @@ use Rattle.token.specs.declared.Scan.{Scan}
 use Rattle.token.specs.declared.Scan.the-variants.{Hit}
 use Rattle.token.proofs.Every.{both, both-left, both-right}
 use Rattle.lexer.specs.Tokens.{Lexeme, lexeme, skipped}
-use Rattle.lexer.proofs.Utf8Laws.{well-ascii, Ascii}
+use Rattle.utf8.proofs.Utf8Laws.{well-ascii, Ascii}
 use Rattle.parser.specs.Steps.{kind, bytes}
 use Rattle.ast.specs.Ast.{
   FieldType,

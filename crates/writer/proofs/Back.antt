@@ -1,7 +1,7 @@
 -- The printed tokens read back as what was printed, places forgotten, and without what write_param drops. Assumes nothing.
 use mathlib.Core.Path.{_≡_, refl, ap, sym, _∙_}
 use mathlib.Core.Bool.{Bool, true, false, cond, or-false}
-use mathlib.Core.Option.{Option, none}
+use mathlib.Core.Option.{Option}
 use mathlib.Core.List.{List, [], _∷_, _++_, append-assoc, append-nil}
 use Prim.Native.Nat.{ℕ, suc, zero, _<_}
 use native.Mathlib.Omega.{arith}
@@ -18,7 +18,7 @@ use Rattle.ast.specs.Lists.{maps, opt, All, anil, acons}
 use Rattle.ast.specs.Ast.{FieldType, FieldInitialValue, Elements, nil, cons, Properties, pnil, Annotation, Annotations, absent, annotations, Required, default, required, optional, Field, field, EnumMember, member, Function, function, Structure, Struct, Union, Exception, Definition, Include, CppInclude, Namespace, Const, Typedef, Enum, structure, Service}
 use Rattle.ast.specs.Drop.{dropField, dropFunction, dropParams}
 use Rattle.ast.proofs.Forget.{nowhere, bareL, bares, forgetType, forgetValue, forgetElements, forgetProperties, forgetAnnotation, forgetAnnotations, forgetField, forgetMember, forgetFunction, forgetDefinition, forget}
-use Rattle.parser.specs.Steps.{kind, bytes, place, span, St, pos, Res, ok, no, P, bind, test, peek, when, next, want, start, here, taken, Fate, stop, over, wait, fate, by, pass, skip, skip-separator, skip-comments, skip-comments-discard, skip-trivia, closed, loop, many}
+use Rattle.parser.specs.Steps.{kind, place, St, pos, Res, ok, P, bind, test, peek, when, next, want, start, here, taken, Fate, stop, over, wait, fate, by, pass, skip, skip-separator, skip-comments, skip-comments-discard, skip-trivia, closed, loop, many}
 use Rattle.parser.specs.Types.{leafTypes, containerTypes, complexType, mapType, containerType, typeBy, fieldType}
 use Rattle.parser.specs.Values.{leafValues, openers, valuesEnd, property, put, mapProperty, listValue, mapValue, containerValue, valueBy, fieldValue}
 use Rattle.parser.specs.Definitions as D

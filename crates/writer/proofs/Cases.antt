@@ -27,7 +27,7 @@ use Rattle.token.specs.Patterns.{
   rules,
 }
 use Rattle.token.specs.Scan.{derivs, first, keep, scanFrom, scan}
-use Rattle.lexer.specs.Utf8.{tail, sequences, begins, width, sequence, illFrom, illFormed}
+use Rattle.utf8.specs.Utf8.{tail, sequences, begins, width, sequence, illFrom, illFormed}
 use Rattle.lexer.specs.Cuts.{cutAt, cutsFrom, cuts, unrecognized}
 use Rattle.lexer.specs.Location.{endsLine, behind, pass, spanOf, between, opening}
 use Rattle.lexer.specs.Tokens.{skipped, lexemes, tokens}
@@ -41,7 +41,7 @@ use Rattle.parser.specs.Definitions as D
 use Rattle.parser.specs.Read as Re
 use Rattle.parser.specs.Read.{Reading, parsed, endRule, answered, outcomeBy, outcome}
 use Rattle.parser.specs.declared.Answer.the-variants as An
-use mathlib.Core.List.{List, [], _∷_}
+use mathlib.Core.List.{[], _∷_}
 use Prim.Native.Nat.{ℕ}
 use Prim.Native.String.{String}
 use lib.ListN.{replicate}

@@ -37,10 +37,10 @@ use Rattle.lexer.specs.declared.Checked.the-variants as C
 use Rattle.lexer.specs.Cuts.{Cuts, end, stuck, cut, cuts, unrecognized}
 use Rattle.lexer.specs.Location.{pass, between, opening}
 use Rattle.lexer.specs.Tokens.{Lexeme, lexeme, skipped, lexemes, tokens}
-use Rattle.lexer.specs.Utf8.{WellFormed}
+use Rattle.utf8.specs.Utf8.{WellFormed}
 use Rattle.lexer.specs.Check.{limit, verdict, checked}
 use Rattle.lexer.proofs.CutLaws.{cuts-nil, cuts-hit}
-use Rattle.lexer.proofs.Utf8Laws.{well-join, well-ascii, Ascii}
+use Rattle.utf8.proofs.Utf8Laws.{well-join, well-ascii, Ascii}
 use Rattle.writer.specs.Print.{Piece, bytesOf}
 use Rattle.ast.proofs.Forget.{nowhere, bareL, bares}
 use Rattle.writer.proofs.Toks.{toks, Blanks, bnil, bspace, bline, Mark, left-brace, right-brace, left-bracket, right-bracket, left-angle, right-angle, left-paren, right-paren, colon, comma, equals, Good, Sep, snil, sgap, smark, sword, snote}

@@ -14,7 +14,7 @@ use Rattle.token.specs.declared.Token.{Token}
 use Rattle.token.specs.declared.Token.the-variants as T
 use Rattle.token.specs.declared.Scan.the-variants.{Hit}
 use Rattle.lexer.specs.Tokens.{Lexeme, lexeme, skipped}
-use Rattle.lexer.specs.Utf8.{WellFormed}
+use Rattle.utf8.specs.Utf8.{WellFormed}
 use Rattle.ast.proofs.Forget.{nowhere}
 use Rattle.writer.specs.Print.{Piece, gap, mark, word, note, bytesOf}
 

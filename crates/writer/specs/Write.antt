@@ -1,5 +1,5 @@
 -- Printing as a whole: every row of document 01's table, for any text, indent, tables and output. Assumes nothing: these are definitions.
-use mathlib.Core.Bool.{Bool, true, false, cond}
+use mathlib.Core.Bool.{cond}
 use mathlib.Core.List.{List, [], _∷_, _++_}
 use Prim.Native.Nat.{ℕ, _-_}
 use lib.Dec.{ltb}

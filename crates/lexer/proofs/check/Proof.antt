@@ -1,5 +1,5 @@
 -- `lexer::check` meets its contract. Assumes nothing.
-use mathlib.Core.Path.{_≡_, refl, sym, ap, _∙_}
+use mathlib.Core.Path.{refl, sym, _∙_}
 use borrow.Author.Needs.{needs}
 use Rattle.token.specs.Tables.{classes, trie}
 use Rattle.lexer.proofs.CheckLaws.{too-long, ill, unknown, fine}

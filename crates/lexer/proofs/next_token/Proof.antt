@@ -1,9 +1,9 @@
 -- `lexer::next_token` meets its contract. The invariant: what is next from here is what was next at the start. Assumes nothing.
 use mathlib.Core.Path.{_≡_, refl, sym, ap, _∙_}
-use Prim.Native.Nat.{ℕ, _≤_, _<_, _-_, _+_}
+use Prim.Native.Nat.{_≤_, _<_, _-_, _+_}
 use native.Mathlib.Omega.{arith}
 use borrow.Author.Needs.{needs}
-use lib.ListN.{length, take, drop, length-take, length-drop}
+use lib.ListN.{length, take, drop, length-drop}
 use lib.Seq.{length-take-le}
 use Rattle.token.specs.Scan.{scan}
 use Rattle.token.specs.declared.Scan.the-variants.{Hit}

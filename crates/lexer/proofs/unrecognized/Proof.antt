@@ -1,12 +1,12 @@
 -- `lexer::unrecognized` meets its contract. The invariant: the cuts behind the offset decide. Assumes nothing.
 use mathlib.Core.Path.{_≡_, refl, sym, ap, _∙_}
-use Prim.Native.Nat.{ℕ, _≤_, _<_, _-_, _+_}
+use Prim.Native.Nat.{_≤_, _<_, _-_, _+_}
 use native.Mathlib.Omega.{arith}
 use borrow.Author.Needs.{needs}
 use lib.ListN.{length, drop, length-drop}
 use Rattle.token.specs.declared.Scan.the-variants.{Hit}
 use Rattle.token.specs.Scan.{scan}
-use Rattle.lexer.specs.Found.{found}
+use Rattle.utf8.specs.Found.{found}
 use Rattle.lexer.specs.Cuts.{cuts, unrecognized}
 use Rattle.lexer.proofs.CutLaws.{part, hit-fits, unrecognized-end, unrecognized-miss, unrecognized-hit}
 use Rattle.lexer.proofs.unrecognized.Statement.{statement}

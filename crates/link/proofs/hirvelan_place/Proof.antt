@@ -1,6 +1,5 @@
 -- `link::hirvelan_place` meets its contract. Assumes nothing.
 use mathlib.Core.Path.{ap, _∙_}
-use mathlib.Core.List.{List}
 use borrow.Author.Needs.{needs}
 use Rattle.lexer.specs.declared.location.Span.{Span}
 use Rattle.link.specs.Told.{atFront, three}

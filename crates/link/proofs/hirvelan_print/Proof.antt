@@ -1,5 +1,5 @@
 -- `link::hirvelan_print` meets its contract. Assumes nothing.
-use mathlib.Core.Path.{_≡_, refl}
+use mathlib.Core.Path.{refl}
 use Rattle.link.specs.Told.{four}
 use Rattle.link.proofs.Answers.{print-nodes, print-comments, print-output, print-answer}
 use borrow.Author.Needs.{needs}

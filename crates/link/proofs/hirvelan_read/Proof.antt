@@ -1,5 +1,5 @@
 -- `link::hirvelan_read` meets its contract. Assumes nothing.
-use mathlib.Core.Path.{_≡_, refl}
+use mathlib.Core.Path.{refl}
 use Rattle.parser.specs.Read.{numbers}
 use Rattle.link.proofs.Answers.{read-nodes, read-comments, read-answer}
 use borrow.Author.Needs.{needs}

@@ -1,5 +1,4 @@
 -- `parse_definitions::begin` meets its contract. Assumes nothing.
-use mathlib.Core.Path.{_≡_, refl, sym, ap, ap₂, _∙_}
 use Rattle.steps.proofs.Chain.{done-by, given, kept}
 use Rattle.parse_definitions.proofs.Forms.{begin-is}
 use Rattle.steps.specs.Into.{ownIn}

@@ -1,5 +1,4 @@
 -- `parse_definitions::close` meets its contract. Assumes nothing.
-use mathlib.Core.Path.{_≡_, refl, sym, ap, ap₂, _∙_}
 use Rattle.parse_definitions.proofs.Forms.{recorded}
 use borrow.Author.Needs.{needs}
 use Rattle.parse_definitions.proofs.close.Statement.{statement}

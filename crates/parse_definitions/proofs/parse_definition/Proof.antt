@@ -1,5 +1,4 @@
 -- `parse_definitions::parse_definition` meets its contract. Assumes nothing.
-use mathlib.Core.Path.{_≡_, refl, sym, ap, ap₂, _∙_}
 use Rattle.steps.proofs.Chain.{fails, last, no, yes}
 use Rattle.parse_definitions.proofs.Forms.{definition-is}
 use borrow.Author.Needs.{needs}

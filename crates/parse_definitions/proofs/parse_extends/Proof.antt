@@ -1,5 +1,4 @@
 -- `parse_definitions::parse_extends` meets its contract. Assumes nothing.
-use mathlib.Core.Path.{_≡_, refl, sym, ap, ap₂, _∙_}
 use Rattle.steps.proofs.Chain.{given, last, no, ret, yes}
 use Rattle.parse_definitions.proofs.Forms.{extends-is}
 use Rattle.parse_members.specs.Into.{nameIn}

@@ -1,5 +1,5 @@
 -- `parse_definitions::parse_structure` meets its contract. Assumes nothing.
-use mathlib.Core.Path.{_≡_, refl, sym, ap, ap₂, _∙_}
+use mathlib.Core.Path.{_∙_}
 use Rattle.steps.proofs.Chain.{ends, kept, off, on}
 use Rattle.parse_definitions.proofs.Forms.{structure-is}
 use borrow.Author.Needs.{needs}

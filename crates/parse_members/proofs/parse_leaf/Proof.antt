@@ -1,5 +1,4 @@
 -- `parse_members::parse_leaf` meets its contract. Assumes nothing.
-use mathlib.Core.Path.{_≡_, refl, sym, ap, ap₂, _∙_}
 use Rattle.steps.proofs.Chain.{ends, off, on}
 use Rattle.parse_members.proofs.Forms.{token-is}
 use borrow.Author.Needs.{needs}

@@ -1,5 +1,4 @@
 -- `parse_members::parse_name` meets its contract. Assumes nothing.
-use mathlib.Core.Path.{_≡_, refl, sym, ap, ap₂, _∙_}
 use Rattle.steps.proofs.Chain.{last}
 use Rattle.parse_members.proofs.Forms.{name-is}
 use borrow.Author.Needs.{needs}

@@ -12,7 +12,7 @@ use Rattle.lexer.specs.declared.location.Lexer.{Lexer}
 use Rattle.lexer.specs.Location.{Placed, opening, spanOf}
 use Rattle.lexer.proofs.PlaceLaws.{opening-placed, pass-placed}
 use Rattle.lexer.proofs.CutLaws.{part}
-use Rattle.place.specs.Place.{kindOf, lengthOf, walk, least, step}
+use Rattle.place.specs.Place.{lengthOf, walk, least, step}
 use Rattle.place.proofs.WalkLaws.{step-length, step-at, walk-step, walk-none}
 use Rattle.place.proofs.reached.Statement.{statement}
 use Rattle.place.proofs.reached.Tie as tie

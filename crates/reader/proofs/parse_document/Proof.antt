@@ -1,5 +1,5 @@
 -- `reader::parse_document` meets its contract. Assumes nothing.
-use mathlib.Core.Path.{_≡_, refl, sym, ap, ap₂, _∙_}
+use mathlib.Core.Path.{refl, _∙_}
 use Rattle.steps.proofs.LoopForms.{Looping, closes, loop-starts, over, stays, turn}
 use Rattle.reader.proofs.Whole.{document-is}
 use native.Mathlib.Omega.{arith}

@@ -1,5 +1,4 @@
 -- `reader::parse_in_rest` meets its contract. Assumes nothing.
-use mathlib.Core.Path.{_≡_, refl, sym, ap, ap₂, _∙_}
 use Rattle.reader.proofs.Whole.{rest-is}
 use borrow.Author.Needs.{needs}
 use Rattle.reader.proofs.parse_in_rest.Statement.{statement}

@@ -1,5 +1,4 @@
 -- `reader::unscanned` meets its contract. Assumes nothing.
-use Prim.Native.Nat.{_≤_}
 use native.Mathlib.Omega.{arith}
 use Rattle.steps.specs.Into.{shows}
 use Rattle.reader.specs.Into.{unscanned}

@@ -1,5 +1,4 @@
 -- `lexer::location::behind` meets its contract. Assumes nothing.
-use mathlib.Core.Path.{refl}
 use native.Mathlib.Omega.{arith}
 use borrow.Author.Needs.{needs}
 use Rattle.lexer.specs.Location.{behind}

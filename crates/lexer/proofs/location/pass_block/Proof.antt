@@ -1,13 +1,13 @@
 -- `lexer::location::pass_block` meets its contract. The invariant: the lexer stands behind the bytes passed. Assumes nothing.
 use mathlib.Core.Path.{_≡_, refl, sym, ap, _∙_}
 use mathlib.Core.Bool.{Bool}
-use Prim.Native.Nat.{ℕ, _≤_, _<_, _-_, _+_}
+use Prim.Native.Nat.{_≤_, _-_, _+_}
 use native.Mathlib.Omega.{arith}
 use borrow.Author.Needs.{needs}
 use lib.ListN.{length, take, length-take}
 use lib.Seq.{take-all}
 use Rattle.token.specs.declared.Token.the-variants as T
-use Rattle.lexer.specs.Location.{pass, behind, Placed}
+use Rattle.lexer.specs.Location.{pass, behind}
 use Rattle.lexer.proofs.CutLaws.{pass-at}
 use Rattle.lexer.proofs.PlaceLaws.{pass-placed, pass-more, block-line}
 use Rattle.lexer.proofs.location.pass_block.Statement.{statement}

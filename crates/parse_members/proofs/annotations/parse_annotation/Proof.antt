@@ -1,5 +1,5 @@
 -- `parse_members::annotations::parse_annotation` meets its contract. Assumes nothing.
-use mathlib.Core.Path.{_≡_, refl, sym, ap, ap₂, _∙_}
+use mathlib.Core.Path.{_∙_}
 use Rattle.steps.proofs.Chain.{ends-at, given, kept, no-by, noted, off, on, ret, yes-by}
 use Rattle.parse_members.proofs.Forms.{annotation-is, one-separator-is}
 use Rattle.parse_members.specs.Into.{nameIn}

@@ -1,5 +1,5 @@
 -- `parse_members::annotations::parse_annotation_list` meets its contract. Assumes nothing.
-use mathlib.Core.Path.{_≡_, refl, sym, ap, ap₂, _∙_}
+use mathlib.Core.Path.{refl, _∙_}
 use Rattle.steps.proofs.LoopForms.{QuietLooping, closes, over, quiet-starts, skip-one, stays, turn}
 use Rattle.parse_members.proofs.ListForms.{annotation-list-is}
 use mathlib.Core.Bool.{false}

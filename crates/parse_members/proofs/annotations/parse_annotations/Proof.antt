@@ -1,5 +1,5 @@
 -- `parse_members::annotations::parse_annotations` meets its contract. Assumes nothing.
-use mathlib.Core.Path.{_≡_, refl, sym, ap, ap₂, _∙_}
+use mathlib.Core.Path.{ap, _∙_}
 use Rattle.steps.proofs.Chain.{given, no, node, off, on, ret, yes}
 use Rattle.parse_members.proofs.Forms.{annotations-is}
 use Rattle.steps.specs.Into.{advanced}

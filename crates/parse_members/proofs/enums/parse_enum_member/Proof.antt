@@ -1,5 +1,5 @@
 -- `parse_members::enums::parse_enum_member` meets its contract. Assumes nothing.
-use mathlib.Core.Path.{_≡_, refl, sym, ap, ap₂, _∙_}
+use mathlib.Core.Path.{_∙_}
 use Rattle.steps.proofs.Chain.{given, kept, node, off, on}
 use Rattle.parse_members.proofs.Forms.{member-is}
 use Rattle.steps.specs.Into.{ownIn}

@@ -1,5 +1,5 @@
 -- `parse_members::enums::parse_initializer` meets its contract. Assumes nothing.
-use mathlib.Core.Path.{_≡_, refl, sym, ap, ap₂, _∙_}
+use mathlib.Core.Path.{sym, ap, _∙_}
 use Rattle.steps.specs.declared.state.State.{State}
 use Rattle.steps.proofs.Chain.{given, last, no, ret, yes}
 use Rattle.parse_members.proofs.Forms.{initializer-is}

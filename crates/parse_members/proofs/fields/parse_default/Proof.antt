@@ -1,5 +1,4 @@
 -- `parse_members::fields::parse_default` meets its contract. Assumes nothing.
-use mathlib.Core.Path.{_≡_, refl, sym, ap, ap₂, _∙_}
 use Rattle.steps.proofs.Chain.{given, last, no, ret, yes}
 use Rattle.parse_members.proofs.Forms.{default-is}
 use Rattle.parse_values.specs.Into.{valueIn}

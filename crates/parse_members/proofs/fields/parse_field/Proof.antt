@@ -1,5 +1,5 @@
 -- `parse_members::fields::parse_field` meets its contract. Assumes nothing.
-use mathlib.Core.Path.{_≡_, refl, sym, ap, ap₂, _∙_}
+use mathlib.Core.Path.{refl, ap₂, _∙_}
 use Rattle.steps.proofs.Chain.{given, kept, node-by, off, on}
 use Rattle.parse_members.proofs.Forms.{field-is}
 use Rattle.steps.specs.Into.{ownIn, sum}

@@ -1,5 +1,4 @@
 -- `parse_members::fields::parse_field_id` meets its contract. Assumes nothing.
-use mathlib.Core.Path.{_≡_, refl, sym, ap, ap₂, _∙_}
 use borrow.Author.Tests.{not-true, not-false}
 use Rattle.steps.proofs.Chain.{fails, kept, last, no, no-by, off, on, ret, yes, yes-by}
 use Rattle.parse_members.proofs.Forms.{field-id-is}

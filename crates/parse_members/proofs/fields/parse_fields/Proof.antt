@@ -1,5 +1,5 @@
 -- `parse_members::fields::parse_fields` meets its contract. Assumes nothing.
-use mathlib.Core.Path.{_≡_, refl, sym, ap, ap₂, _∙_}
+use mathlib.Core.Path.{refl, _∙_}
 use Rattle.steps.proofs.LoopForms.{Looping, closes, loop-starts, over, stays, turn}
 use Rattle.parse_members.proofs.ListForms.{skip-member}
 use native.Mathlib.Omega.{arith}

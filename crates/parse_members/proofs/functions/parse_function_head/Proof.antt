@@ -1,5 +1,5 @@
 -- `parse_members::functions::parse_function_head` meets its contract. Assumes nothing.
-use mathlib.Core.Path.{_≡_, refl, sym, ap, ap₂, _∙_}
+use mathlib.Core.Path.{_∙_}
 use Rattle.steps.proofs.Chain.{given, last, off, on}
 use Rattle.parse_members.proofs.Forms.{function-head-is}
 use Rattle.parse_members.specs.Into.{returnTypeIn}

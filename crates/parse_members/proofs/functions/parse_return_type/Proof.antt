@@ -1,5 +1,4 @@
 -- `parse_members::functions::parse_return_type` meets its contract. Assumes nothing.
-use mathlib.Core.Path.{_≡_, refl, sym, ap, ap₂, _∙_}
 use Rattle.steps.proofs.Chain.{ends, given, last, no, yes}
 use Rattle.parse_members.proofs.Forms.{return-type-is}
 use Rattle.steps.specs.Into.{leafIn}

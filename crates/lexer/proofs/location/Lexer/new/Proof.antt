@@ -1,4 +1,3 @@
-use borrow.Author.Needs.{needs}
 -- `lexer::location::Lexer::new` meets its contract. Assumes nothing.
 use mathlib.Core.Path.{refl}
 use Rattle.lexer.specs.Location.{opening}

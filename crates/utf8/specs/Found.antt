@@ -1,0 +1,9 @@
+-- An offset that a search finds, or none, as the code answers it. Assumes nothing: these are definitions.
+use Prim.Native.Nat.{ℕ}
+use mathlib.Core.Option.{Option, some, none}
+use Rattle.utf8.specs.declared.Found.{Found}
+use Rattle.utf8.specs.declared.Found.the-variants.{At, Nowhere}
+
+unfoldable pub found : Option ℕ → Found
+found (some p) = At p
+found none = Nowhere
