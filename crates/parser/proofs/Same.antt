@@ -24,7 +24,7 @@ use Rattle.ast.specs.Ast.{
 }
 use Rattle.ast.proofs.Forget.{nowhere, bareL, bares, forgetType, forgetValue, forgetElements, forgetProperties, forgetAnnotation, forgetAnnotations, forgetField, forgetMember, forgetFunction, forgetDefinition, forget}
 use Rattle.ast.specs.Lists.{maps, opt}
-use Rattle.parser.specs.Steps.{kind, bytes, place, span, St, pos, Res, ok, no, P, bind, test, peek, when, fail, refuse, next, want, start, here, taken, Fate, stop, over, wait, by, pass, skip, skip-separator, skip-comments, skip-comments-discard, skip-trivia, closed, loop, many}
+use Rattle.parser.specs.Steps.{_>>=_, _>>_, kind, bytes, place, span, St, pos, Res, ok, no, P, bind, test, peek, when, fail, refuse, next, want, start, here, taken, Fate, stop, over, wait, by, pass, skip, skip-separator, skip-comments, skip-comments-discard, skip-trivia, closed, loop, many}
 use Rattle.parser.specs.Types.{complexType, mapType, containerType, typeBy, fieldType}
 use Rattle.parser.specs.Values.{
   valuesEnd,

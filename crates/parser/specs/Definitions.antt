@@ -41,7 +41,7 @@ use Rattle.ast.specs.Ast.{
   structure,
   Service,
 }
-use Rattle.parser.specs.Steps.{pos, ok, P, pure, test, bytes, place, span, when, next, want, fail, start, here, taken, refuse, skip-separator, skip-comments, skip-comments-discard, skip-trivia, closed, many}
+use Rattle.parser.specs.Steps.{_>>=_, _>>_, pos, ok, P, pure, test, bytes, place, span, when, next, want, fail, start, here, taken, refuse, skip-separator, skip-comments, skip-comments-discard, skip-trivia, closed, many}
 use Rattle.parser.specs.Types.{fieldType}
 use Rattle.parser.specs.Values.{fieldValue}
 

@@ -8,7 +8,7 @@ use Rattle.token.specs.declared.Token.the-variants as T
 use Rattle.lexer.specs.declared.location.LOC.{LOC}
 use Rattle.lexer.specs.Tokens.{Lexeme}
 use Rattle.ast.specs.Ast.{FieldType, CommonType, ListType, SetType, MapType}
-use Rattle.parser.specs.Steps.{P, pure, test, kind, place, span, next, want, here, refuse}
+use Rattle.parser.specs.Steps.{_>>=_, _>>_, P, pure, test, kind, place, span, next, want, here, refuse}
 
 -- a type by itself: a keyword, or a name
 abbrev pub leafTypes : List Token

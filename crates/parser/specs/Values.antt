@@ -8,7 +8,7 @@ use Rattle.token.specs.declared.Token.the-variants as T
 use Rattle.lexer.specs.declared.location.LOC.{LOC}
 use Rattle.lexer.specs.Tokens.{Lexeme}
 use Rattle.ast.specs.Ast.{FieldInitialValue, ConstValue, ConstList, ConstMap, nil, cons, Properties, pnil, pcons}
-use Rattle.parser.specs.Steps.{P, pure, test, kind, place, span, next, want, start, here, refuse, skip-separator, skip-comments-discard, closed, many}
+use Rattle.parser.specs.Steps.{_>>=_, _>>_, P, pure, test, kind, place, span, next, want, start, here, refuse, skip-separator, skip-comments-discard, closed, many}
 
 abbrev pub leafValues : List Token
 leafValues = T.StringLiteral ∷ T.IntegerLiteral ∷ T.DoubleLiteral ∷ T.BooleanLiteral ∷ T.HexLiteral ∷ T.Identifier ∷ []
