@@ -80,7 +80,7 @@ os.makedirs("target/definitions/crates/held/src")
 shutil.copytree("crates", "target/definitions/crates", symlinks=True, dirs_exist_ok=True)
 for part in ("rlib", "stamp"):
     shutil.copytree(f"target/{part}", f"target/definitions/target/{part}")
-open("target/definitions/crates.txt", "w").write(open("crates.txt").read() + "held: writer parser ast lexer token\n")
+open("target/definitions/crates.txt", "w").write(open("crates.txt").read() + "held: writer parser ast lexer scan utf8 token\n")
 open("target/definitions/crates/held/src/lib.rt", "w").write("// Theorems by computation.\n")
 names = []
 
