@@ -26,10 +26,6 @@ use Rattle.lexer.specs.Tokens.{skipped, nextOf, next}
 pub hit-fits : (t : List ℕ) (k : Token) (n : ℕ) → scan t ≡ Hit k n → (0 < n) × (n ≤ length t)
 hit-fits t k n e = let h : Longest t (Hit k n) = subst (Longest t) e (scan-longest t) in (h .0, h .1)
 
--- the part of a text from an offset on
-pub part : (t : List ℕ) (at : ℕ) → take (length t - at) (drop at t) ≡ drop at t
-part t at = take-all (length t - at) (drop at t) (omega (arith, length-drop at t))
-
 pub slice : (t : List ℕ) (at n : ℕ) → take (at + n - at) (drop at t) ≡ take n (drop at t)
 slice t at n = let e : at + n - at ≡ n = omega arith in rw e
 

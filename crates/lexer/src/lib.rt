@@ -53,7 +53,7 @@ pub fn next_token(class: &[u8; 256], trie: &[u8; 512], text: &[u8], lexer: Lexer
         if text.len() <= at {
             return Next::End;
         }
-        let found = scan::scan_token(class, trie, &text[at..]);
+        let found = scan::scan_token(class, trie, text, at);
         let Scan::Hit(token, n) = found else {
             return Next::Unrecognized(from.at);
         };
@@ -75,7 +75,7 @@ pub fn unrecognized(class: &[u8; 256], trie: &[u8; 512], text: &[u8], from: usiz
 {
     let mut at = from;
     while at < text.len() {
-        let found = scan::scan_token(class, trie, &text[at..]);
+        let found = scan::scan_token(class, trie, text, at);
         let Scan::Hit(_, n) = found else {
             return Found::At(at);
         };

@@ -34,7 +34,7 @@ fn first(class: &[u8; 256], trie: &[u8; 512], text: &[u8], most: usize) -> Piece
     requires { ⌜ (now class ≡ classes) × (now trie ≡ nodes) ⌝ }
     ensures { λ r. ⌜ (r .token ≡ kindOf (scan (now (text .entry)))) × (r .length ≡ least (lengthOf (scan (now (text .entry)))) most) ⌝ }
 {
-    let found = scan::scan_token(class, trie, text);
+    let found = scan::scan_token(class, trie, text, 0);
     let Scan::Hit(token, n) = found else {
         return Piece {
             token: Token::Blank,

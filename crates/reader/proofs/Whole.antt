@@ -22,7 +22,7 @@ use Rattle.lexer.specs.Cuts.{Cuts, cutAt, cutsFrom, cuts, unrecognized}
 use Rattle.lexer.specs.Check.{checked}
 use Rattle.utf8.specs.Found.{found}
 use Rattle.utf8.specs.declared.Found.the-variants.{At, Nowhere}
-use Rattle.lexer.proofs.CutLaws.{part}
+use Rattle.scan.proofs.Part.{part}
 use Rattle.utf8.proofs.FoundLaws.{found-at, found-none}
 use Rattle.ast.specs.Records.{cleared}
 use Rattle.parser.specs.declared.Answer.the-variants as A

@@ -1,3 +1,4 @@
+pub mod Part
 pub mod Arms
 pub mod RunLaws
 pub mod UntilLaws

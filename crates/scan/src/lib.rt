@@ -424,8 +424,8 @@ fn sign_of(class: &[u8; 256], text: &[u8], k: u8) -> Scan
     mark_of(k)
 }
 
-// The token that starts the text.
-pub fn scan_token(class: &[u8; 256], trie: &[u8; 512], text: &[u8]) -> Scan
+// The token that starts a text.
+fn token_of(class: &[u8; 256], trie: &[u8; 512], text: &[u8]) -> Scan
     requires { ⌜ (now class ≡ classes) × (now trie ≡ nodes) ⌝ }
     ensures { λ r. ⌜ r ≡ scan (now (text .entry)) ⌝ }
 {
@@ -443,4 +443,12 @@ pub fn scan_token(class: &[u8; 256], trie: &[u8; 512], text: &[u8]) -> Scan
         return zero_of(class, text);
     }
     whole_of(class, text, 1)
+}
+
+// The token at an offset: the part of the text from there on is handed on.
+pub fn scan_token(class: &[u8; 256], trie: &[u8; 512], text: &[u8], at: usize) -> Scan
+    requires { ⌜ (now class ≡ classes) × (now trie ≡ nodes) × (at ≤ length (now text)) ⌝ }
+    ensures { λ r. ⌜ r ≡ scan (drop at (now (text .entry))) ⌝ }
+{
+    token_of(class, trie, &text[at..])
 }

@@ -48,7 +48,7 @@ fn piece_by(class: &[u8; 256], trie: &[u8; 512], text: &[u8], at: usize) -> Piec
 {
     let mut from = at;
     while from < text.len() {
-        let found = scan::scan_token(class, trie, &text[from..]);
+        let found = scan::scan_token(class, trie, text, from);
         let Scan::Hit(token, n) = found else {
             return Piece {
                 what: What::Unrecognized,

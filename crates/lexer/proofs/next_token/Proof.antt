@@ -9,7 +9,7 @@ use Rattle.token.specs.Scan.{scan}
 use Rattle.token.specs.declared.Scan.the-variants.{Hit}
 use Rattle.lexer.specs.Location.{Placed, pass}
 use Rattle.lexer.specs.Tokens.{skipped, next}
-use Rattle.lexer.proofs.CutLaws.{part, slice, hit-fits, pass-at, next-end, next-miss, next-hit}
+use Rattle.lexer.proofs.CutLaws.{slice, hit-fits, pass-at, next-end, next-miss, next-hit}
 use Rattle.lexer.proofs.PlaceLaws.{pass-placed}
 use Rattle.lexer.proofs.next_token.Statement.{statement}
 use Rattle.lexer.proofs.next_token.Tie as tie
@@ -29,35 +29,35 @@ returns c =
     sym (l .loop .inv .1 ∙ next-end _ (l .loop .from) (c .if1 .taken))
 
 scan-token-requires : tie.Need-scan-token-requires Inv-loop μ-loop
-scan-token-requires c κs = let a = c .before .before .before .before .before in (a .pre .0, a .pre .1)
+scan-token-requires c κs = let a = c .before .before .before .before in (a .pre .0, a .pre .1, omega (arith, c .if1 .left))
 
 returns-2 : tie.Need-returns-2 Inv-loop μ-loop
 returns-2 c =
     let s = c .before .before in
-    let l = s .before .before .before .before in
+    let l = s .before .before .before in
     let t = l .before .before .args .text .now in
-    let e : scan (drop (l .loop .from .at) t) ≡ _ = ap scan (sym (part t (l .loop .from .at))) ∙ sym (s .scan-token .ensures) ∙ c .enum-told .given .1 in
-    sym (l .loop .inv .1 ∙ next-miss t (l .loop .from) (s .before .before .if1 .left) e)
+    let e : scan (drop (l .loop .from .at) t) ≡ _ = sym (s .scan-token .ensures) ∙ c .enum-told .given .1 in
+    sym (l .loop .inv .1 ∙ next-miss t (l .loop .from) (s .before .if1 .left) e)
 
 -- the token that was found
 hit : (c : tie.After-known-told Inv-loop μ-loop)
-    → scan (drop (c .before .before .before .before .before .before .before .loop .from .at) (c .before .before .before .before .before .before .before .before .before .args .text .now))
+    → scan (drop (c .before .before .before .before .before .before .loop .from .at) (c .before .before .before .before .before .before .before .before .args .text .now))
     ≡ Hit (c .before .found .given .0 .0) (c .before .found .given .0 .1 .0)
 hit c =
     let s = c .before .before .before in
-    let l = s .before .before .before .before in
+    let l = s .before .before .before in
     let t = l .before .before .args .text .now in
-    ap scan (sym (part t (l .loop .from .at))) ∙ sym (s .scan-token .ensures) ∙ c .before .found .given .1
+    sym (s .scan-token .ensures) ∙ c .before .found .given .1
 
 fits : (c : tie.After-known-told Inv-loop μ-loop) → (0 < c .before .found .given .0 .1 .0)
-    × (c .before .before .before .before .before .before .before .loop .from .at + c .before .found .given .0 .1 .0
-    ≤ length (c .before .before .before .before .before .before .before .before .before .args .text .now))
+    × (c .before .before .before .before .before .before .loop .from .at + c .before .found .given .0 .1 .0
+    ≤ length (c .before .before .before .before .before .before .before .before .args .text .now))
 fits c =
     let s = c .before .before .before in
-    let l = s .before .before .before .before in
+    let l = s .before .before .before in
     let t = l .before .before .args .text .now in
     let h = hit-fits (drop (l .loop .from .at) t) _ _ (hit c) in
-    (h .0, omega (arith, h .1, length-drop (l .loop .from .at) t, s .before .before .if1 .left))
+    (h .0, omega (arith, h .1, length-drop (l .loop .from .at) t, s .before .if1 .left))
 
 add-end : tie.Need-add-end Inv-loop μ-loop
 add-end c = omega (arith, fits c .1)
@@ -74,7 +74,7 @@ part-pass-lexeme-end c = let h = fits c .1 in search needs
 pass-lexeme-requires : tie.Need-pass-lexeme-requires Inv-loop μ-loop
 pass-lexeme-requires c κs =
     let d = c .before in
-    let l = d .before .before .before .before .before .before .before in
+    let l = d .before .before .before .before .before .before in
     let h = hit-fits (drop (l .loop .from .at) (l .before .before .args .text .now)) _ _ (hit d) in
     let n = length-take-le _ (drop (l .loop .from .at) (l .before .before .args .text .now)) (h .1) in
     (l .loop .inv .0, rw (slice (l .before .before .args .text .now) (l .loop .from .at) (d .before .found .given .0 .1 .0)) (omega (arith, n, h .0)), rw (slice (l .before .before .args .text .now) (l .loop .from .at) (d .before .found .given .0 .1 .0)) (omega (arith, n, fits d .1, l .before .before .pre .2)))
@@ -82,30 +82,30 @@ pass-lexeme-requires c κs =
 -- where the lexer stands behind it
 module _ (c : tie.After-pass-lexeme Inv-loop μ-loop) where
   passed : c .pass-lexeme .result
-      ≡ pass (take (c .before .before .before .found .given .0 .1 .0) (drop (c .before .before .before .before .before .before .before .before .before .loop .from .at) (c .before .before .before .before .before .before .before .before .before .before .before .args .text .now)))
-      (c .before .before .before .found .given .0 .0) (c .before .before .before .before .before .before .before .before .before .loop .from)
+      ≡ pass (take (c .before .before .before .found .given .0 .1 .0) (drop (c .before .before .before .before .before .before .before .before .loop .from .at) (c .before .before .before .before .before .before .before .before .before .before .args .text .now)))
+      (c .before .before .before .found .given .0 .0) (c .before .before .before .before .before .before .before .before .loop .from)
   passed =
       let d = c .before .before in
-      let l = d .before .before .before .before .before .before .before in
+      let l = d .before .before .before .before .before .before in
       rw (slice (l .before .before .args .text .now) (l .loop .from .at) (d .before .found .given .0 .1 .0)) at (c .pass-lexeme .ensures)
 
-  length-of : length (take (c .before .before .before .found .given .0 .1 .0) (drop (c .before .before .before .before .before .before .before .before .before .loop .from .at) (c .before .before .before .before .before .before .before .before .before .before .before .args .text .now)))
+  length-of : length (take (c .before .before .before .found .given .0 .1 .0) (drop (c .before .before .before .before .before .before .before .before .loop .from .at) (c .before .before .before .before .before .before .before .before .before .before .args .text .now)))
       ≡ c .before .before .before .found .given .0 .1 .0
   length-of =
       let d = c .before .before in
-      let l = d .before .before .before .before .before .before .before in
+      let l = d .before .before .before .before .before .before in
       length-take-le _ (drop (l .loop .from .at) (l .before .before .args .text .now)) (hit-fits (drop (l .loop .from .at) (l .before .before .args .text .now)) _ _ (hit d) .1)
 
   placed : Placed (c .pass-lexeme .result)
   placed =
       let d = c .before .before in
-      let l = d .before .before .before .before .before .before .before in
+      let l = d .before .before .before .before .before .before in
       rw passed (pass-placed _ _ (l .loop .from) (l .loop .inv .0) (omega (arith, length-of, fits d .1, l .before .before .pre .2)))
 
-  moved : c .pass-lexeme .result .at ≡ c .before .before .before .before .before .before .before .before .before .loop .from .at + c .before .before .before .found .given .0 .1 .0
+  moved : c .pass-lexeme .result .at ≡ c .before .before .before .before .before .before .before .before .loop .from .at + c .before .before .before .found .given .0 .1 .0
   moved =
       let d = c .before .before in
-      let l = d .before .before .before .before .before .before .before in
+      let l = d .before .before .before .before .before .before in
       ap (λ x. x .at) passed ∙ pass-at _ _ (l .loop .from) ∙ omega (arith, length-of)
 
 loop-less : tie.Need-loop-less Inv-loop μ-loop
@@ -115,20 +115,20 @@ loop-again : tie.Need-loop-again Inv-loop μ-loop
 loop-again c =
     let p = c .before .before in
     let d = p .before .before in
-    let l = d .before .before .before .before .before .before .before in
+    let l = d .before .before .before .before .before .before in
     (placed p, l .loop .inv .1 ∙ rw (← c .before .skipped .ensures, c .if2 .taken) at (next-hit _ (l .loop .from) _ _ (hit d) (p .pass-lexeme .result) (passed p)))
 
 until-requires : tie.Need-until-requires Inv-loop μ-loop
 until-requires c κs =
     let p = c .before .before in
-    (p .before .before .before .before .before .before .before .before .before .loop .inv .0, placed p)
+    (p .before .before .before .before .before .before .before .before .loop .inv .0, placed p)
 
 returns-3 : tie.Need-returns-3 Inv-loop μ-loop
 returns-3 c =
     let q = c .before .before in
     let p = q .before in
     let d = p .before .before in
-    let l = d .before .before .before .before .before .before .before in
+    let l = d .before .before .before .before .before .before in
     rw (c .until .ensures)
     (sym (l .loop .inv .1 ∙ rw (← q .skipped .ensures, c .before .if2 .left) at (next-hit _ (l .loop .from) _ _ (hit d) (p .pass-lexeme .result) (passed p))))
 
@@ -141,9 +141,6 @@ next-token-spec =
     loop-holds
     (λ c. search needs)
     returns
-    (λ c. search needs)
-    (λ c. search needs)
-    (λ c. search needs)
     scan-token-requires
     (λ c. search needs)
     (λ c. search needs)

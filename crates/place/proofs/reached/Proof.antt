@@ -11,7 +11,7 @@ use Rattle.token.specs.declared.Token.the-variants as T
 use Rattle.lexer.specs.declared.location.Lexer.{Lexer}
 use Rattle.lexer.specs.Location.{Placed, opening, spanOf}
 use Rattle.lexer.proofs.PlaceLaws.{opening-placed, pass-placed}
-use Rattle.lexer.proofs.CutLaws.{part}
+use Rattle.scan.proofs.Part.{part}
 use Rattle.place.specs.Place.{lengthOf, walk, least, step}
 use Rattle.place.proofs.WalkLaws.{step-length, step-at, walk-step, walk-none}
 use Rattle.place.proofs.reached.Statement.{statement}

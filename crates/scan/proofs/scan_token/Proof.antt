@@ -1,49 +1,20 @@
 -- `scan::scan_token` meets its contract. Assumes nothing.
-use mathlib.Core.Path.{refl, sym, _∙_}
-use native.Mathlib.Omega.{arith}
-use Rattle.token.proofs.Reach.{reach-start}
-use Rattle.token.proofs.Words.{scan-plain}
-use Rattle.token.proofs.Trie.{no-word-first}
-use Rattle.scan.proofs.ScanLaws.{first-zero, first-digit, scan-nil}
+use mathlib.Core.Path.{ap, _∙_}
 use borrow.Author.Needs.{needs}
+use Rattle.token.specs.Scan.{scan}
+use Rattle.scan.proofs.Part.{part}
 use Rattle.scan.proofs.scan_token.Statement.{statement}
 use Rattle.scan.proofs.scan_token.Tie as tie
 
 returns : tie.Need-returns
-returns c = sym (scan-nil (c .before .before .args .text .now) (c .if1 .taken))
-
-sign-of-requires : tie.Need-sign-of-requires
-sign-of-requires c κs = (c .before .before .before .before .pre .0, omega arith, c .before .class-at .ensures, c .if2 .taken, (reach-start (c .before .before .before .before .args .text .now) (λ j. omega (arith, c .before .before .before .shared-slice-known .given j))))
-
-returns-2 : tie.Need-returns-2
-returns-2 c = c .sign-of .ensures ∙ sym (scan-plain (c .before .before .before .before .before .args .text .now) _ (no-word-first (c .before .before .before .before .before .args .text .now) (omega arith) (omega (arith, c .before .before .before .before .shared-slice-known .given 0)) .1 (rw (c .before .before .class-at .ensures) at (c .before .if2 .taken))) refl)
-
-word-of-requires : tie.Need-word-of-requires
-word-of-requires c κs = (c .before .before .before .before .before .pre .0, c .before .before .before .before .before .pre .1, omega arith, c .before .before .class-at .ensures, c .if3 .taken, c .before .if2 .left, (reach-start (c .before .before .before .before .before .args .text .now) (λ j. omega (arith, c .before .before .before .before .shared-slice-known .given j))))
-
-zero-of-requires : tie.Need-zero-of-requires
-zero-of-requires c κs = (c .before .before .before .before .before .before .pre .0, first-zero (reach-start (c .before .before .before .before .before .before .args .text .now) (λ j. omega (arith, c .before .before .before .before .before .shared-slice-known .given j))) (omega arith) (sym (c .before .before .before .class-at .ensures) ∙ c .if4 .taken))
-
-returns-4 : tie.Need-returns-4
-returns-4 c = c .zero-of .ensures ∙ sym (scan-plain (c .before .before .before .before .before .before .before .args .text .now) _ (no-word-first (c .before .before .before .before .before .before .before .args .text .now) (omega arith) (omega (arith, c .before .before .before .before .before .before .shared-slice-known .given 0)) .0 (rw (c .before .before .before .before .class-at .ensures) at (c .before .before .if3 .left))) refl)
-
-whole-of-requires : tie.Need-whole-of-requires
-whole-of-requires c κs = (c .before .before .before .before .before .before .pre .0, first-digit (reach-start (c .before .before .before .before .before .before .args .text .now) (λ j. omega (arith, c .before .before .before .before .before .shared-slice-known .given j))) (omega arith) (rw (c .before .before .before .class-at .ensures) at (c .before .if3 .left)) (λ e. c .if4 .left (c .before .before .before .class-at .ensures ∙ e)))
-
-returns-5 : tie.Need-returns-5
-returns-5 c = c .whole-of .ensures ∙ sym (scan-plain (c .before .before .before .before .before .before .before .args .text .now) _ (no-word-first (c .before .before .before .before .before .before .before .args .text .now) (omega arith) (omega (arith, c .before .before .before .before .before .before .shared-slice-known .given 0)) .0 (rw (c .before .before .before .before .class-at .ensures) at (c .before .before .if3 .left))) refl)
+returns c = let a = c .before .before .before .args in c .token-of .ensures ∙ ap scan (part (a .text .now) (a .at))
 
 pub scan-token-spec : {M : Type 1} → statement M
 scan-token-spec =
     tie.close
     (tie.spec
-    returns
-    (λ c κs. search needs)
-    sign-of-requires
-    returns-2
-    word-of-requires
     (λ c. search needs)
-    zero-of-requires
-    returns-4
-    whole-of-requires
-    returns-5)
+    (λ c. search needs)
+    (λ c. search needs)
+    (λ c κs. search needs)
+    returns)
