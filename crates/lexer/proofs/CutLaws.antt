@@ -10,7 +10,7 @@ use mathlib.Core.Option.{some, none}
 use Prim.Native.Nat.{ℕ, zero, suc, _+_, _-_, _<_, _≤_}
 use native.Mathlib.Omega.{arith}
 use lib.ListN.{length, take, drop, length-drop, drop-of-length-le}
-use lib.Seq.{drop-drop, drop-nil, length-take-le, take-all}
+use lib.Seq.{drop-drop, drop-nil, length-take-le}
 use Rattle.token.specs.Scan.{scan}
 use Rattle.token.specs.Match.{Longest}
 use Rattle.token.specs.declared.Token.{Token}

@@ -32,7 +32,7 @@ pub enum Checked {
 }
 
 // Blanks and line ends are no tokens for the parser.
-fn skipped(token: Token) -> bool
+pub fn skipped(token: Token) -> bool
     ensures { λ r. ⌜ r ≡ skipped token ⌝ }
 {
     let code = token.code();

@@ -14,9 +14,6 @@ ghost use Rattle.token.specs.declared.Token.the-variants as T;
 ghost use Rattle.lexer.specs.Location.{Placed, spanOf, opening};
 ghost use Rattle.place.specs.Place.{kindOf, lengthOf, walk, least, placeOf, step};
 
-// The longest text that has lines.
-const LIMIT: usize = 65536;
-
 // A token and how many of its bytes are passed.
 struct Piece {
     token: Token,
@@ -79,6 +76,6 @@ pub fn find(text: &[u8], offset: u32) -> Span
 {
     let class = table::CLASS;
     let trie = table::WORDS;
-    let end = least(text.len(), LIMIT);
+    let end = least(text.len(), lexer::LIMIT);
     reached(&class, &trie, text, least(offset as usize, end))
 }

@@ -2,7 +2,6 @@
 ghost use mathlib.Core.Path.{_≡_};
 ghost use Prim.Native.Nat.{_≤_};
 ghost use lib.ListN.{length};
-ghost use Rattle.ast.specs.Records.{cleared};
 ghost use Rattle.steps.specs.Into.{wiped};
 ghost use Rattle.writer.specs.Write.{told, printing};
 ghost use Rattle.printer.specs.Onto.{refusing, fits, writing};
@@ -22,17 +21,6 @@ fn clear(bytes: &mut [u8], from: usize)
     }
 }
 
-// All numbers of a table become 0.
-fn clear_numbers(table: &mut [u32])
-    ensures { λ _. ⌜ now (table .exit) ≡ cleared (now (table .entry)) ⌝ }
-{
-    let mut i: usize = 0;
-    while i < table.len() {
-        table[i] = 0;
-        i += 1;
-    }
-}
-
 fn refuse(
     number: u32,
     place: u32,
@@ -43,8 +31,8 @@ fn refuse(
 ) -> Printed
     ensures { λ r. ⌜ told r (now (nodes .exit)) (now (comments .exit)) (now (out .exit)) ≡ refusing number place length (now (nodes .entry)) (now (comments .entry)) (now (out .entry)) ⌝ }
 {
-    clear_numbers(nodes);
-    clear_numbers(comments);
+    reader::clear(nodes, 0);
+    reader::clear(comments, 0);
     clear(out, 0);
     Printed::Refused {
         number,

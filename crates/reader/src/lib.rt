@@ -120,7 +120,7 @@ fn begin(class: &[u8; 256], trie: &[u8; 512], text: &[u8]) -> State
 }
 
 // A table's numbers become 0 from an index on.
-fn clear(table: &mut [u32], from: usize)
+pub fn clear(table: &mut [u32], from: usize)
     requires { ⌜ from ≤ length (now table) ⌝ }
     ensures { λ _. ⌜ now (table .exit) ≡ wiped from (now (table .entry)) ⌝ }
 {

@@ -1,7 +1,6 @@
 // The thin reader: it keeps a text with its offset, and gives one token a call.
 ghost use mathlib.Core.Path.{_≡_};
 ghost use Rattle.token.specs.Tables.{classes, trie as nodes};
-ghost use Rattle.lexer.specs.Tokens.{skipped};
 ghost use Rattle.scanner.specs.Piece.{pieceAt};
 ghost use Rattle.scanner.specs.Reader.{opened, read, behind};
 use scan::table;
@@ -30,17 +29,6 @@ pub struct Piece {
     pub end: usize,
 }
 
-// Blanks and line ends are passed over.
-fn passed_over(token: Token) -> bool
-    ensures { λ r. ⌜ r ≡ skipped token ⌝ }
-{
-    let code = token.code();
-    if code == 51 {
-        return true;
-    }
-    code == 0
-}
-
 // The first piece of the text from `at` on, one scan after the other.
 fn piece_by(class: &[u8; 256], trie: &[u8; 512], text: &[u8], at: usize) -> Piece
     requires { ⌜ (now class ≡ classes) × (now trie ≡ nodes) ⌝ }
@@ -57,7 +45,7 @@ fn piece_by(class: &[u8; 256], trie: &[u8; 512], text: &[u8], at: usize) -> Piec
             };
         };
         let end = from + n;
-        if passed_over(token) {
+        if lexer::skipped(token) {
             from = end;
         } else {
             return Piece {

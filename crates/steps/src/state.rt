@@ -2,16 +2,16 @@
 use lexer::location::LOC;
 use lexer::location::Lexer;
 
-// The lexer behind the token ahead; that token's kind and place; the place of the last token taken;
-// the number of the next node record; how many comments have an owner, and how many wait for one.
+// The lexer behind the token ahead; that token's place; the place of the last token taken; the number of the next node record;
+// how many comments have an owner, and how many wait for one; the kind of the token ahead.
 pub struct State {
     pub lexer: Lexer,
-    pub kind: u8,
     pub loc: LOC,
     pub last: LOC,
     pub next: u32,
     pub owned: u32,
     pub waiting: u32,
+    pub kind: u8,
 }
 
 // The kind where no token is left.

@@ -7,7 +7,7 @@ use Rattle.printer.proofs.refuse.Tie as tie
 
 returns : tie.Need-returns
 unfolding refusing
-returns c = rw (c .before .before .before .before .before .before .before .before .before .before .clear-numbers .ensures, c .before .before .before .before .before .before .clear-numbers2 .ensures, c .before .before .clear .ensures, wipe-all)
+returns c = rw (c .before .before .before .before .before .before .before .before .before .before .clear .ensures, c .before .before .before .before .before .before .clear2 .ensures, c .before .before .clear3 .ensures, wipe-all, wipe-all, wipe-all)
 
 pub refuse-spec : {M : Type 1} → statement M
 refuse-spec =

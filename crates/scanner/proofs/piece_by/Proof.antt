@@ -1,5 +1,5 @@
 -- `scanner::piece_by` meets its contract. The invariant: what is first from here is what was first at the start. Assumes nothing.
-use mathlib.Core.Path.{_≡_, refl, sym, ap, _∙_}
+use mathlib.Core.Path.{_≡_, refl, sym, _∙_}
 use Prim.Native.Nat.{_≤_, _<_, _-_, _+_}
 use native.Mathlib.Omega.{arith}
 use borrow.Author.Needs.{needs}
@@ -57,13 +57,13 @@ loop-again : tie.Need-loop-again Inv-loop μ-loop
 loop-again c =
     let d = c .before .before in
     let l = d .before .before .before .before .before in
-    l .loop .inv ∙ rw (← c .before .passed-over .ensures, c .if1 .taken) at (piece-hit _ (l .loop .from) _ _ (hit d))
+    l .loop .inv ∙ rw (← c .before .skipped .ensures, c .if1 .taken) at (piece-hit _ (l .loop .from) _ _ (hit d))
 
 returns-2 : tie.Need-returns-2 Inv-loop μ-loop
 returns-2 c =
     let d = c .before .before in
     let l = d .before .before .before .before .before in
-    sym (l .loop .inv ∙ rw (← c .before .passed-over .ensures, c .if1 .left) at (piece-hit _ (l .loop .from) _ _ (hit d)))
+    sym (l .loop .inv ∙ rw (← c .before .skipped .ensures, c .if1 .left) at (piece-hit _ (l .loop .from) _ _ (hit d)))
 
 returns-3 : tie.Need-returns-3 Inv-loop μ-loop
 returns-3 c = sym (c .before .loop .inv ∙ piece-end _ (c .before .loop .from) (c .loop-test .left))
