@@ -1,5 +1,5 @@
 #!/usr/bin/env python3
-"""Makes the lexer's constant tables: crates/scan/src/table.rt and crates/token/specs/Tables.antt.
+"""Makes the lexer's constant tables: crates/lexer/src/table.rt and crates/token/specs/Tables.antt.
 
 The class of each byte, and the keywords as a double-array trie. Nothing here is trusted: the checker holds both tables to
 the patterns by computed tests. Run from the repository's root; prints the nodes that spell a word, for words::kind_of."""
@@ -54,7 +54,7 @@ def cons(xs, width=32):
     return "\n    ∷ ".join(" ∷ ".join(map(str, xs[i : i + width])) for i in range(0, len(xs), width)) + " ∷ []"
 
 
-open("crates/scan/src/table.rt", "w").write(f"""// The lexer's constant tables, made by tools/lexer_tables.py. Each is held to the patterns by computed tests.
+open("crates/lexer/src/table.rt", "w").write(f"""// The lexer's constant tables, made by tools/lexer_tables.py. Each is held to the patterns by computed tests.
 
 // The class of each byte: 0 to 7 digits, 8 to 35 letters and `_`, then the dot and the other signs.
 pub const CLASS: [u8; 256] = [

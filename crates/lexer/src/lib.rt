@@ -1,5 +1,6 @@
 // The lexer: from any byte string to its tokens, proved.
 pub mod location;
+pub mod table;
 
 ghost use mathlib.Core.Path.{_≡_};
 ghost use Prim.Native.Nat.{_≤_};
@@ -94,8 +95,8 @@ pub fn check(text: &[u8]) -> Checked
     if let Found::At(at) = utf8::ill_formed(text) {
         return Checked::IllFormed(at);
     }
-    let class = scan::table::CLASS;
-    let trie = scan::table::WORDS;
+    let class = table::CLASS;
+    let trie = table::WORDS;
     match unrecognized(&class, &trie, text, 0) {
         Found::At(at) => Checked::Unrecognized(at),
         Found::Nowhere => Checked::Fine,

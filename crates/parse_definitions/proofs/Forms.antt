@@ -8,7 +8,8 @@ use Rattle.ast.specs.Records.{noParent}
 use Rattle.steps.specs.declared.state.State.{State}
 use Rattle.steps.specs.Into.{putNode, stop, M, Out, _⨟_, advanceIn, advanced, after, done, expectIn, nodeIn, opened, ownIn, refused, skipCommentsIn}
 use Rattle.parse_values.specs.Into.{typeIn, valueIn}
-use Rattle.parse_members.specs.Into.{nesting, annotationsIn, enumMembersIn, fieldsIn, functionsIn, nameIn, tokenIn}
+use Rattle.parse_fields.specs.Into.{nesting, annotationsIn, fieldsIn, nameIn, tokenIn}
+use Rattle.parse_members.specs.Into.{enumMembersIn, functionsIn}
 use Rattle.parse_definitions.specs.Into.{beginIn, constIn, defineIn, definitionIn, enumIn, extendsIn, includeIn, namespaceIn, ownRecordIn, scopeIn, serviceHeadIn, serviceIn, structureIn, typedNameIn, typedefIn}
 
 pub begin-is : (text : List ℕ) (st : State) (t u : List ℕ) → beginIn text st t u ≡

@@ -71,9 +71,10 @@ use Rattle.parser.specs.Definitions.{
   parseService,
   parseDefinition,
 }
-use Rattle.parse_members.specs.Into as I
+use Rattle.parse_fields.specs.Into as I
 use Rattle.steps.specs.Into.{Out, M, after, opened, owns, nodeIn, advanceIn}
-use Rattle.parse_members.specs.Into.{nameIn, fieldIn, fieldsIn, functionIn, functionsIn, memberIn, enumMembersIn}
+use Rattle.parse_fields.specs.Into.{nameIn, fieldIn, fieldsIn}
+use Rattle.parse_members.specs.Into.{functionIn, functionsIn, memberIn, enumMembersIn}
 use Rattle.parse_definitions.specs.Into.{
   beginIn,
   ownRecordIn,
@@ -97,7 +98,7 @@ use Rattle.steps.proofs.Seen.{lastOf, waitingOf, Frame, At, fewer, regrown, Mea
 use Rattle.steps.proofs.StepLaws.{tested, Wanted, step-m, one-m, expect-m, refuse-m, here-in, taken-in, emptied}
 use Rattle.steps.proofs.SkipLaws.{trivia-m}
 use Rattle.steps.proofs.NodeLaws.{inside, own-at, finish-at}
-use Rattle.parse_members.proofs.MeantFields.{token-m, noded, owning, name-m, annotations-m, field-m, members-m}
+use Rattle.parse_fields.proofs.MeantFields.{token-m, noded, owning, name-m, annotations-m, field-m, members-m}
 use Rattle.parse_values.proofs.MeantTypes.{type-m}
 use Rattle.parse_values.proofs.MeantValues.{value-m}
 use Rattle.parse_members.proofs.MeantFunctions.{function-m, member-m, either-m}

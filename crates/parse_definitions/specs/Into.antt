@@ -9,7 +9,8 @@ use Rattle.ast.specs.Records.{noParent}
 use Rattle.steps.specs.declared.state.State.{State}
 use Rattle.steps.specs.Into.{M, after, _⨟_, opened, nodeIn, advanced, advanceIn, refused, expectIn, skipCommentsIn, ownIn, done}
 use Rattle.parse_values.specs.Into.{typeIn, valueIn}
-use Rattle.parse_members.specs.Into.{tokenIn, nameIn, annotationsIn, nesting, fieldsIn, functionsIn, enumMembersIn}
+use Rattle.parse_fields.specs.Into.{tokenIn, nameIn, annotationsIn, nesting, fieldsIn}
+use Rattle.parse_members.specs.Into.{functionsIn, enumMembersIn}
 
 unfoldable pub beginIn : List ℕ → M
 beginIn text st t u = after (ownIn (st .next) (opened st) t u) (advanceIn text)

@@ -1,10 +1,10 @@
 // Definitions, the keyword ahead (rico's parser/definitions.rs); `rest` is lent from the definition's own record on.
 ghost use Rattle.steps.specs.Into.{Puts, Keeps, Lent, Reads, Quiet};
 ghost use Rattle.parse_definitions.specs.Into.{beginIn, ownRecordIn, includeIn, scopeIn, namespaceIn, typedNameIn, constIn, typedefIn, enumIn, structureIn, extendsIn, serviceHeadIn, serviceIn, definitionIn};
-use parse_members::NESTING;
-use parse_members::annotations;
+use parse_fields::NESTING;
+use parse_fields::annotations;
+use parse_fields::fields;
 use parse_members::enums;
-use parse_members::fields;
 use parse_members::functions;
 use parse_values::types;
 use parse_values::values;
@@ -44,7 +44,7 @@ fn parse_include(
     ensures { λ r. ⌜ Reads (includeIn (now (text .entry)) kind) st r (now (rest .entry)) (now (rest .exit)) (now (comments .entry)) (now (comments .exit)) ⌝ }
 {
     let begun = begin(class, trie, text, st, comments);
-    let name = parse_members::parse_leaf(
+    let name = parse_fields::parse_leaf(
         class,
         trie,
         text,
@@ -77,9 +77,9 @@ fn parse_scope(
     ensures { λ r. ⌜ Quiet (scopeIn (now (text .entry)) base parent) st r (now (rest .entry)) (now (rest .exit)) ⌝ }
 {
     if st.kind == 47 {
-        return parse_members::parse_leaf(class, trie, text, st, 47, 11, 16, base, parent, rest);
+        return parse_fields::parse_leaf(class, trie, text, st, 47, 11, 16, base, parent, rest);
     }
-    parse_members::parse_name(class, trie, text, st, 11, base, parent, rest)
+    parse_fields::parse_name(class, trie, text, st, 11, base, parent, rest)
 }
 
 // parse_namespace
@@ -99,7 +99,7 @@ fn parse_namespace(
     let Parsed::On(scoped) = scope else {
         return scope;
     };
-    let name = parse_members::parse_name(class, trie, text, scoped, 10, st.next, st.next, rest);
+    let name = parse_fields::parse_name(class, trie, text, scoped, 10, st.next, st.next, rest);
     let Parsed::On(state) = name else {
         return name;
     };
@@ -125,7 +125,7 @@ fn parse_typed_name(
     let Parsed::On(typed) = read else {
         return read;
     };
-    parse_members::parse_name(class, trie, text, typed, number, base, parent, rest)
+    parse_fields::parse_name(class, trie, text, typed, number, base, parent, rest)
 }
 
 // parse_const: separators and comments behind the value are taken, and lie outside its range.
@@ -191,7 +191,7 @@ fn parse_enum(
     ensures { λ r. ⌜ Reads (enumIn (now (text .entry))) st r (now (rest .entry)) (now (rest .exit)) (now (comments .entry)) (now (comments .exit)) ⌝ }
 {
     let begun = begin(class, trie, text, st, comments);
-    let name = parse_members::parse_name(class, trie, text, begun, 15, st.next, st.next, rest);
+    let name = parse_fields::parse_name(class, trie, text, begun, 15, st.next, st.next, rest);
     let Parsed::On(named) = name else {
         return name;
     };
@@ -230,7 +230,7 @@ fn parse_structure(
     ensures { λ r. ⌜ Reads (structureIn (now (text .entry)) kind) st r (now (rest .entry)) (now (rest .exit)) (now (comments .entry)) (now (comments .exit)) ⌝ }
 {
     let begun = begin(class, trie, text, st, comments);
-    let name = parse_members::parse_name(class, trie, text, begun, 16, st.next, st.next, rest);
+    let name = parse_fields::parse_name(class, trie, text, begun, 16, st.next, st.next, rest);
     let Parsed::On(named) = name else {
         return name;
     };
@@ -275,7 +275,7 @@ fn parse_extends(
         return Parsed::On(st);
     }
     let state = steps::advance(class, trie, text, st);
-    parse_members::parse_name(class, trie, text, state, 18, base, parent, rest)
+    parse_fields::parse_name(class, trie, text, state, 18, base, parent, rest)
 }
 
 // The name of a service, and what it extends.
@@ -291,7 +291,7 @@ fn parse_service_head(
     requires { ⌜ Lent (now class) (now trie) (now text) ⌝ }
     ensures { λ r. ⌜ Quiet (serviceHeadIn (now (text .entry)) base parent) st r (now (rest .entry)) (now (rest .exit)) ⌝ }
 {
-    let name = parse_members::parse_name(class, trie, text, st, 17, base, parent, rest);
+    let name = parse_fields::parse_name(class, trie, text, st, 17, base, parent, rest);
     let Parsed::On(named) = name else {
         return name;
     };

@@ -1,5 +1,2 @@
 pub mod Forms
-pub mod ListForms
-pub mod KindTests
-pub mod MeantFields
 pub mod MeantFunctions

@@ -53,30 +53,17 @@ use Rattle.parser.specs.Definitions.{
   parseInitializer,
   parseEnumMember,
 }
-use Rattle.parse_members.specs.Into as I
+use Rattle.parse_fields.specs.Into as I
 use Rattle.steps.specs.Into.{done, after, _⨟_, sum, opened, owns, nodeIn}
-use Rattle.parse_members.specs.Into.{
-  tokenIn,
-  nameIn,
-  fieldIn,
-  fieldsIn,
-  throwsIn,
-  returnTypeIn,
-  flagIf,
-  skipOneway,
-  functionHeadIn,
-  functionTailIn,
-  functionIn,
-  initializerIn,
-  memberIn,
-}
+use Rattle.parse_fields.specs.Into.{tokenIn, nameIn, fieldIn, fieldsIn}
+use Rattle.parse_members.specs.Into.{throwsIn, returnTypeIn, flagIf, skipOneway, functionHeadIn, functionTailIn, functionIn, initializerIn, memberIn}
 use Rattle.parser.proofs.KindLaws.{one-test, one-kind}
 use Rattle.steps.proofs.ForestLaws.{_⊕_, plus-bare, plus-assoc, perhaps-plus, each-plus, throws-plus}
 use Rattle.steps.proofs.Seen.{small-sum, lastOf, waitingOf, Frame, At, less, fewer, regrown, Meant, went, bind-m, here-m, last-m, weak-m, grouped}
 use Rattle.steps.proofs.StepLaws.{tested, step-m, one-m, here-in, taken-in}
 use Rattle.steps.proofs.SkipLaws.{trivia-m}
 use Rattle.steps.proofs.NodeLaws.{own-at, finish-at, leaf-m}
-use Rattle.parse_members.proofs.MeantFields.{token-m, owning, literal-of, name-m, annotations-m, field-m, members-m}
+use Rattle.parse_fields.proofs.MeantFields.{token-m, owning, literal-of, name-m, annotations-m, field-m, members-m}
 use Rattle.parse_values.proofs.MeantTypes.{common-tree, type-m}
 
 -- ---- the trees

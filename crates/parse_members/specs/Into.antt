@@ -1,93 +1,13 @@
 -- What the readers of annotations, fields, functions and enum members do to the state and to both tables: their part of parser/specs/Definitions, with records
 -- written as they are read. Contracts of this crate and of those above it cite it, and proofs/MeantFields and MeantFunctions show that it means the definitions;
 -- nothing else has to believe it. Assumes nothing: these are definitions.
-use mathlib.Core.Bool.{Bool, true, false, cond, _||_}
+use mathlib.Core.Bool.{true, cond}
 use mathlib.Core.List.{List}
 use Prim.Native.Nat.{ℕ}
-use lib.Dec.{eqb, ltb, leb}
+use lib.Dec.{eqb}
 use Rattle.steps.specs.declared.state.State.{State}
-use Rattle.steps.specs.Into.{M, after, _⨟_, sum, opened, leafIn, nodeIn, advanced, refused, startAt, takeIn, expectIn, most, isSeparator, skipIn, skipCommentsIn, ownIn, loopIn, closesAt, isIdAt, done}
-use Rattle.parse_values.specs.Into.{typeIn, valueIn}
-
--- ---- tokens and names
-
-unfoldable pub tokenIn : List ℕ → ℕ → ℕ → ℕ → ℕ → ℕ → M
-tokenIn text w e k b p = expectIn text w e ⨟ leafIn k b p
-
-unfoldable pub nameIn : List ℕ → ℕ → ℕ → ℕ → M
-nameIn text e b p = tokenIn text 28 e 16 b p
-
--- ---- annotations
-
-unfoldable pub oneSeparatorIn : List ℕ → M
-oneSeparatorIn text st t u = cond (isSeparator (st .kind)) (done (advanced text st) t u) (done st t u)
-
-unfoldable pub annotationIn : List ℕ → ℕ → ℕ → M
-annotationIn text b p st t u =
-    after (nameIn text 2 b (st .next) (opened st) t u)
-    (expectIn text 45 2 ⨟ (tokenIn text 29 2 23 b (st .next) ⨟ (nodeIn (st .next) 15 0 (st .loc .start) b p ⨟ oneSeparatorIn text)))
-
-unfoldable pub annotationListIn : List ℕ → ℕ → ℕ → M
-annotationListIn text b p = loopIn (closesAt 41) (skipIn text false) (takeIn text) (annotationIn text b p) most
-
-unfoldable pub annotationsIn : List ℕ → ℕ → ℕ → M
-annotationsIn text b p st t u =
-    cond (eqb (st .kind) 40)
-    (after (annotationListIn text b (st .next) (advanced text (opened st)) t u) (nodeIn (st .next) 14 0 (st .last .start) b p))
-    (done st t u)
-
--- ---- fields
-
-unfoldable pub fieldIdIn : List ℕ → ℕ → ℕ → M
-fieldIdIn text b p st t u =
-    after (takeIn text st t u)
-    (λ st₁ t u. cond (eqb (st .kind) 32)
-    (cond (isIdAt text (st₁ .last)) ((leafIn 17 b p ⨟ expectIn text 43 2) st₁ t u) (refused 9 st))
-    (done st₁ t u))
-
-unfoldable pub requiredOf : ℕ → ℕ
-requiredOf k = cond (eqb k 13) 1 (cond (eqb k 14) 2 0)
-
-unfoldable pub skipRequired : List ℕ → State → State
-skipRequired text st = cond (eqb (requiredOf (st .kind)) 0) st (advanced text st)
-
-unfoldable pub isEarlyName : ℕ → Bool
-isEarlyName k = eqb k 1 || (eqb k 3 || (eqb k 6 || eqb k 7))
-
-unfoldable pub isFieldName : ℕ → Bool
-isFieldName k = cond (ltb k 10) (isEarlyName k) (cond (leb k 14) true (cond (ltb k 16) false (cond (leb k 28) true (eqb k 50))))
-
-unfoldable pub fieldNameIn : List ℕ → ℕ → ℕ → M
-fieldNameIn text b p st t u = cond (isFieldName (st .kind)) (leafIn 16 b p (advanced text st) t u) (refused 8 st)
-
-unfoldable pub nesting : ℕ
-nesting = 32
-
-unfoldable pub defaultIn : List ℕ → ℕ → ℕ → M
-defaultIn text b p st t u = cond (eqb (st .kind) 45) (valueIn text nesting b p (advanced text st) t u) (done st t u)
-
-unfoldable pub fieldHeadIn : List ℕ → ℕ → ℕ → M
-fieldHeadIn text b p st t u = after (typeIn text nesting b p (skipRequired text st) t u) (fieldNameIn text b p)
-
-unfoldable pub fieldTailIn : List ℕ → ℕ → ℕ → M
-fieldTailIn text b p = defaultIn text b p ⨟ annotationsIn text b p
-
-unfoldable pub fieldIn : List ℕ → ℕ → ℕ → ℕ → M
-fieldIn text f b p st t u =
-    after (ownIn (st .next) (opened st) t u)
-    (fieldIdIn text b (st .next)
-    ⨟ λ st₁ t u. after (fieldHeadIn text b (st .next) st₁ t u)
-    (fieldTailIn text b (st .next) ⨟ nodeIn (st .next) 12 (sum (requiredOf (st₁ .kind)) f) (startAt st) b p))
-
-unfoldable pub skipMemberIn : List ℕ → M
-skipMemberIn text = skipIn text true ⨟ skipCommentsIn text false
-
--- members from one bracket to another
-unfoldable pub membersIn : List ℕ → ℕ → ℕ → M → M
-membersIn text o k member = expectIn text o 2 ⨟ loopIn (closesAt k) (skipMemberIn text) (takeIn text) member most
-
-unfoldable pub fieldsIn : List ℕ → ℕ → ℕ → ℕ → ℕ → ℕ → M
-fieldsIn text o k f b p = membersIn text o k (fieldIn text f b p)
+use Rattle.steps.specs.Into.{M, after, _⨟_, sum, opened, leafIn, nodeIn, advanced, skipCommentsIn, ownIn, done}
+use Rattle.parse_values.specs.Into.{typeIn}
 
 -- ---- functions
 

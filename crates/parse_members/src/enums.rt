@@ -1,7 +1,7 @@
 // Enum members.
 ghost use Rattle.steps.specs.Into.{Lent, Reads, Quiet};
 ghost use Rattle.parse_members.specs.Into.{initializerIn, memberIn, enumMembersIn};
-use crate::annotations;
+use parse_fields::annotations;
 use steps::state::MOST;
 use steps::state::Parsed;
 use steps::state::State;
@@ -25,9 +25,9 @@ fn parse_initializer(
     }
     let state = steps::advance(class, trie, text, st);
     if state.kind == 31 {
-        return crate::parse_leaf(class, trie, text, state, 31, 6, 27, base, parent, rest);
+        return parse_fields::parse_leaf(class, trie, text, state, 31, 6, 27, base, parent, rest);
     }
-    crate::parse_leaf(class, trie, text, state, 32, 6, 24, base, parent, rest)
+    parse_fields::parse_leaf(class, trie, text, state, 32, 6, 24, base, parent, rest)
 }
 
 // parse_enum_member
@@ -45,7 +45,7 @@ fn parse_enum_member(
     ensures { λ r. ⌜ Reads (memberIn (now (text .entry)) base parent) st r (now (rest .entry)) (now (rest .exit)) (now (comments .entry)) (now (comments .exit)) ⌝ }
 {
     let first = steps::own(table::open(st), st.next, comments);
-    let name = crate::parse_name(class, trie, text, first, 19, base, st.next, rest);
+    let name = parse_fields::parse_name(class, trie, text, first, 19, base, st.next, rest);
     let Parsed::On(named) = name else {
         return name;
     };

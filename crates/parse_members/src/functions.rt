@@ -2,9 +2,9 @@
 ghost use mathlib.Core.Path.{_≡_};
 ghost use Rattle.steps.specs.Into.{Lent, Reads, Quiet};
 ghost use Rattle.parse_members.specs.Into.{throwsIn, returnTypeIn, flagIf, skipOneway, functionHeadIn, functionTailIn, functionIn, functionsIn};
-use crate::NESTING;
-use crate::annotations;
-use crate::fields;
+use parse_fields::NESTING;
+use parse_fields::annotations;
+use parse_fields::fields;
 use parse_values::types;
 use steps::state::MOST;
 use steps::state::Parsed;
@@ -100,7 +100,7 @@ fn parse_function_head(
     let Parsed::On(typed) = read else {
         return read;
     };
-    crate::parse_name(class, trie, text, typed, 2, base, parent, rest)
+    parse_fields::parse_name(class, trie, text, typed, 2, base, parent, rest)
 }
 
 // What stands behind the parameters: thrown fields; separators and comments; annotations.

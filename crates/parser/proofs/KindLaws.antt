@@ -1,4 +1,4 @@
--- Kinds of tokens against their numbers, by tests over all 52; `agree`, `alike` and `Tests` are for the tests of the code (SkipLaws of steps, KindTests of parse_values and parse_members).
+-- Kinds of tokens against their numbers, by tests over all 52; `agree`, `alike` and `Tests` are for the tests of the code (SkipLaws of steps, KindTests of parse_values and parse_fields).
 --     either              of two tests one holds
 --     same-kind           kinds of one number are one
 --     agree, alike        two functions of a kind that give the same at each of them

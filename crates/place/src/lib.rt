@@ -2,7 +2,7 @@
 use lexer::location;
 use lexer::location::Lexer;
 use lexer::location::Span;
-use scan::table;
+use lexer::table;
 use token::Scan;
 use token::Token;
 ghost use mathlib.Core.Path.{_≡_};

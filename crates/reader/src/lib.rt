@@ -215,8 +215,8 @@ fn parse(text: &[u8], nodes: &mut [u32], comments: &mut [u32]) -> Answer
     requires { ⌜ length (now text) ≤ 65536 ⌝ }
     ensures { λ r. ⌜ told r (now (nodes .exit)) (now (comments .exit)) ≡ parsing (now (text .entry)) (now (nodes .entry)) (now (comments .entry)) ⌝ }
 {
-    let class = scan::table::CLASS;
-    let trie = scan::table::WORDS;
+    let class = lexer::table::CLASS;
+    let trie = lexer::table::WORDS;
     let st = begin(&class, &trie, text);
     let parsed = parse_document(&class, &trie, text, st, nodes, comments);
     let from = unscanned(parsed);

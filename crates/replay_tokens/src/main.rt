@@ -171,8 +171,8 @@ fn same_tokens(
 fn same_cuts(text: &[u8], rows: &[u8], verdict: u32, place: u32) -> bool
     requires { ⌜ length (now text) ≤ 65536 ⌝ }
 {
-    let class = scan::table::CLASS;
-    let trie = scan::table::WORDS;
+    let class = lexer::table::CLASS;
+    let trie = lexer::table::WORDS;
     same_tokens(&class, &trie, text, rows, verdict, place)
 }
 

@@ -1,5 +1,4 @@
 // Which token starts a text, and how long it is: branches over the classes of its bytes. Each byte is looked at once, but for two at most behind a token.
-pub mod table;
 mod words;
 
 use token::Scan;

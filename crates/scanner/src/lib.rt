@@ -3,7 +3,7 @@ ghost use mathlib.Core.Path.{_≡_};
 ghost use Rattle.token.specs.Tables.{classes, trie as nodes};
 ghost use Rattle.scanner.specs.Piece.{pieceAt};
 ghost use Rattle.scanner.specs.Reader.{opened, read, behind};
-use scan::table;
+use lexer::table;
 use token::Scan;
 use token::Token;
 

@@ -104,8 +104,8 @@ fn write_tokens(class: &[u8; 256], trie: &[u8; 512], text: &[u8])
 fn write_text(text: &[u8]) {
     match lexer::check(text) {
         Checked::Fine => {
-            let class = scan::table::CLASS;
-            let trie = scan::table::WORDS;
+            let class = lexer::table::CLASS;
+            let trie = lexer::table::WORDS;
             write_tokens(&class, &trie, text);
         }
         Checked::TooLong => write_refusal(20, 0),

@@ -1,7 +1,7 @@
 -- `parse_definitions::parse_extends` meets its contract. Assumes nothing.
 use Rattle.steps.proofs.Chain.{given, last, no, ret, yes}
 use Rattle.parse_definitions.proofs.Forms.{extends-is}
-use Rattle.parse_members.specs.Into.{nameIn}
+use Rattle.parse_fields.specs.Into.{nameIn}
 use borrow.Author.Needs.{needs}
 use Rattle.parse_definitions.proofs.parse_extends.Statement.{statement}
 use Rattle.parse_definitions.proofs.parse_extends.Tie as tie

@@ -1,12 +1,14 @@
 -- `parse_members::enums::parse_enum_members` meets its contract. Assumes nothing.
 use mathlib.Core.Path.{refl, _∙_}
 use Rattle.steps.proofs.LoopForms.{Looping, closes, loop-starts, over, stays, turn}
-use Rattle.parse_members.proofs.ListForms.{skip-member}
+use Rattle.parse_fields.proofs.ListForms.{skip-member}
 use native.Mathlib.Omega.{arith}
 use Rattle.steps.proofs.Chain.{last, off, on}
-use Rattle.parse_members.proofs.Forms.{enum-members-is, members-is}
+use Rattle.parse_fields.proofs.Forms.{members-is}
+use Rattle.parse_members.proofs.Forms.{enum-members-is}
 use Rattle.steps.specs.Into.{closesAt, takeIn}
-use Rattle.parse_members.specs.Into.{memberIn, skipMemberIn}
+use Rattle.parse_fields.specs.Into.{skipMemberIn}
+use Rattle.parse_members.specs.Into.{memberIn}
 use borrow.Author.Needs.{needs}
 use Rattle.parse_members.proofs.enums.parse_enum_members.Statement.{statement}
 use Rattle.parse_members.proofs.enums.parse_enum_members.Tie as tie

@@ -3,7 +3,7 @@ use mathlib.Core.Path.{sym, ap, _∙_}
 use Rattle.steps.specs.declared.state.State.{State}
 use Rattle.steps.proofs.Chain.{given, last, no, ret, yes}
 use Rattle.parse_members.proofs.Forms.{initializer-is}
-use Rattle.parse_members.specs.Into.{tokenIn}
+use Rattle.parse_fields.specs.Into.{tokenIn}
 use borrow.Author.Needs.{needs}
 use Rattle.parse_members.proofs.enums.parse_initializer.Statement.{statement}
 use Rattle.parse_members.proofs.enums.parse_initializer.Tie as tie

@@ -1,12 +1,14 @@
 -- `parse_members::functions::parse_functions` meets its contract. Assumes nothing.
 use mathlib.Core.Path.{refl, _∙_}
 use Rattle.steps.proofs.LoopForms.{Looping, closes, loop-starts, over, stays, turn}
-use Rattle.parse_members.proofs.ListForms.{skip-member}
+use Rattle.parse_fields.proofs.ListForms.{skip-member}
 use native.Mathlib.Omega.{arith}
 use Rattle.steps.proofs.Chain.{last, off, on}
-use Rattle.parse_members.proofs.Forms.{functions-is, members-is}
+use Rattle.parse_fields.proofs.Forms.{members-is}
+use Rattle.parse_members.proofs.Forms.{functions-is}
 use Rattle.steps.specs.Into.{closesAt, takeIn}
-use Rattle.parse_members.specs.Into.{functionIn, skipMemberIn}
+use Rattle.parse_fields.specs.Into.{skipMemberIn}
+use Rattle.parse_members.specs.Into.{functionIn}
 use borrow.Author.Needs.{needs}
 use Rattle.parse_members.proofs.functions.parse_functions.Statement.{statement}
 use Rattle.parse_members.proofs.functions.parse_functions.Tie as tie

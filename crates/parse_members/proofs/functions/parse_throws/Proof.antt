@@ -1,7 +1,7 @@
 -- `parse_members::functions::parse_throws` meets its contract. Assumes nothing.
 use Rattle.steps.proofs.Chain.{given, last, no, ret, yes}
 use Rattle.parse_members.proofs.Forms.{throws-is}
-use Rattle.parse_members.specs.Into.{fieldsIn}
+use Rattle.parse_fields.specs.Into.{fieldsIn}
 use borrow.Author.Needs.{needs}
 use Rattle.parse_members.proofs.functions.parse_throws.Statement.{statement}
 use Rattle.parse_members.proofs.functions.parse_throws.Tie as tie

@@ -1,0 +1,4 @@
+pub mod Forms
+pub mod ListForms
+pub mod KindTests
+pub mod MeantFields

@@ -1,0 +1,249 @@
+// Fields.
+ghost use mathlib.Core.Path.{_≡_};
+ghost use Rattle.steps.specs.Into.{Lent, Reads, Quiet};
+ghost use Rattle.parse_fields.specs.Into.{fieldIdIn, requiredOf, skipRequired, isEarlyName, isFieldName, fieldNameIn, defaultIn, fieldHeadIn, fieldTailIn, fieldIn, fieldsIn};
+use crate::NESTING;
+use crate::annotations;
+use parse_values::types;
+use parse_values::values;
+use steps::id;
+use steps::state::MOST;
+use steps::state::Parsed;
+use steps::state::State;
+use steps::table;
+
+// parse_field_id; without an id the first token, of any kind, is passed over.
+fn parse_field_id(
+    class: &[u8; 256],
+    trie: &[u8; 512],
+    text: &[u8],
+    st: State,
+    base: u32,
+    parent: u32,
+    rest: &mut [u32],
+) -> Parsed
+    requires { ⌜ Lent (now class) (now trie) (now text) ⌝ }
+    ensures { λ r. ⌜ Quiet (fieldIdIn (now (text .entry)) base parent) st r (now (rest .entry)) (now (rest .exit)) ⌝ }
+{
+    let taken = steps::take(class, trie, text, st);
+    let Parsed::On(state) = taken else {
+        return taken;
+    };
+    if st.kind != 32 {
+        return Parsed::On(state);
+    }
+    if !id::is_id_at(text, state.last) {
+        return steps::refuse(st, 9);
+    }
+    let numbered = table::put_leaf(rest, state, 17, base, parent);
+    steps::expect(class, trie, text, numbered, 43, 2)
+}
+
+// The flag of a requiredness: 1 required, 2 optional, else 0.
+fn required_flag(kind: u8) -> u32
+    ensures { λ r. ⌜ r ≡ requiredOf kind ⌝ }
+{
+    if kind == 13 {
+        return 1;
+    }
+    if kind == 14 { 2 } else { 0 }
+}
+
+// Past a requiredness, if it is there.
+fn skip_required(class: &[u8; 256], trie: &[u8; 512], text: &[u8], st: State) -> State
+    requires { ⌜ Lent (now class) (now trie) (now text) ⌝ }
+    ensures { λ r. ⌜ r ≡ skipRequired (now (text .entry)) st ⌝ }
+{
+    if required_flag(st.kind) == 0 {
+        return st;
+    }
+    steps::advance(class, trie, text, st)
+}
+
+// parse_field_name: the kinds that may name a field.
+fn is_field_name(kind: u8) -> bool
+    ensures { λ r. ⌜ r ≡ isFieldName kind ⌝ }
+{
+    if kind < 10 {
+        return is_early_name(kind);
+    }
+    if kind <= 14 {
+        return true;
+    }
+    if kind < 16 {
+        return false;
+    }
+    if kind <= 28 {
+        return true;
+    }
+    kind == 50
+}
+
+// Of the first kinds: namespace, include, enum, struct.
+fn is_early_name(kind: u8) -> bool
+    ensures { λ r. ⌜ r ≡ isEarlyName kind ⌝ }
+{
+    if kind == 1 {
+        return true;
+    }
+    if kind == 3 {
+        return true;
+    }
+    if kind == 6 {
+        return true;
+    }
+    kind == 7
+}
+
+fn parse_field_name(
+    class: &[u8; 256],
+    trie: &[u8; 512],
+    text: &[u8],
+    st: State,
+    base: u32,
+    parent: u32,
+    rest: &mut [u32],
+) -> Parsed
+    requires { ⌜ Lent (now class) (now trie) (now text) ⌝ }
+    ensures { λ r. ⌜ Quiet (fieldNameIn (now (text .entry)) base parent) st r (now (rest .entry)) (now (rest .exit)) ⌝ }
+{
+    if !is_field_name(st.kind) {
+        return steps::refuse(st, 8);
+    }
+    let state = steps::advance(class, trie, text, st);
+    Parsed::On(table::put_leaf(rest, state, 16, base, parent))
+}
+
+// The default value, if there is one.
+fn parse_default(
+    class: &[u8; 256],
+    trie: &[u8; 512],
+    text: &[u8],
+    st: State,
+    base: u32,
+    parent: u32,
+    rest: &mut [u32],
+) -> Parsed
+    requires { ⌜ Lent (now class) (now trie) (now text) ⌝ }
+    ensures { λ r. ⌜ Quiet (defaultIn (now (text .entry)) base parent) st r (now (rest .entry)) (now (rest .exit)) ⌝ }
+{
+    if st.kind != 45 {
+        return Parsed::On(st);
+    }
+    let state = steps::advance(class, trie, text, st);
+    values::parse_value(class, trie, text, state, NESTING, base, parent, rest)
+}
+
+// The type and the name of a field, behind its id.
+fn parse_field_head(
+    class: &[u8; 256],
+    trie: &[u8; 512],
+    text: &[u8],
+    st: State,
+    base: u32,
+    parent: u32,
+    rest: &mut [u32],
+) -> Parsed
+    requires { ⌜ Lent (now class) (now trie) (now text) ⌝ }
+    ensures { λ r. ⌜ Quiet (fieldHeadIn (now (text .entry)) base parent) st r (now (rest .entry)) (now (rest .exit)) ⌝ }
+{
+    let begun = skip_required(class, trie, text, st);
+    let read = types::parse_type(class, trie, text, begun, NESTING, base, parent, rest);
+    let Parsed::On(typed) = read else {
+        return read;
+    };
+    parse_field_name(class, trie, text, typed, base, parent, rest)
+}
+
+// The default value and the annotations of a field.
+fn parse_field_tail(
+    class: &[u8; 256],
+    trie: &[u8; 512],
+    text: &[u8],
+    st: State,
+    base: u32,
+    parent: u32,
+    rest: &mut [u32],
+) -> Parsed
+    requires { ⌜ Lent (now class) (now trie) (now text) ⌝ }
+    ensures { λ r. ⌜ Quiet (fieldTailIn (now (text .entry)) base parent) st r (now (rest .entry)) (now (rest .exit)) ⌝ }
+{
+    let read = parse_default(class, trie, text, st, base, parent, rest);
+    let Parsed::On(state) = read else {
+        return read;
+    };
+    annotations::parse_annotations(class, trie, text, state, base, parent, rest)
+}
+
+// parse_field; `flag` is 16 for a thrown field.
+fn parse_field(
+    class: &[u8; 256],
+    trie: &[u8; 512],
+    text: &[u8],
+    st: State,
+    flag: u32,
+    base: u32,
+    parent: u32,
+    rest: &mut [u32],
+    comments: &mut [u32],
+) -> Parsed
+    requires { ⌜ Lent (now class) (now trie) (now text) ⌝ }
+    ensures { λ r. ⌜ Reads (fieldIn (now (text .entry)) flag base parent) st r (now (rest .entry)) (now (rest .exit)) (now (comments .entry)) (now (comments .exit)) ⌝ }
+{
+    let first = steps::own(table::open(st), st.next, comments);
+    let id = parse_field_id(class, trie, text, first, base, st.next, rest);
+    let Parsed::On(numbered) = id else {
+        return id;
+    };
+    let head = parse_field_head(class, trie, text, numbered, base, st.next, rest);
+    let Parsed::On(named) = head else {
+        return head;
+    };
+    let tail = parse_field_tail(class, trie, text, named, base, st.next, rest);
+    let Parsed::On(state) = tail else {
+        return tail;
+    };
+    let start = steps::start_of(st);
+    let flags = table::sum(required_flag(numbered.kind), flag);
+    table::put_node(rest, state, st.next, 12, flags, start, base, parent);
+    Parsed::On(state)
+}
+
+// parse_members and parse_parameters over fields: from `opener` to `closer`.
+pub fn parse_fields(
+    class: &[u8; 256],
+    trie: &[u8; 512],
+    text: &[u8],
+    st: State,
+    opener: u8,
+    closer: u8,
+    flag: u32,
+    base: u32,
+    parent: u32,
+    rest: &mut [u32],
+    comments: &mut [u32],
+) -> Parsed
+    requires { ⌜ Lent (now class) (now trie) (now text) ⌝ }
+    ensures { λ r. ⌜ Reads (fieldsIn (now (text .entry)) opener closer flag base parent) st r (now (rest .entry)) (now (rest .exit)) (now (comments .entry)) (now (comments .exit)) ⌝ }
+{
+    let opened = steps::expect(class, trie, text, st, opener, 2);
+    let Parsed::On(inside) = opened else {
+        return opened;
+    };
+    let mut state = inside;
+    let mut left = MOST;
+    while 0 < left {
+        let over = steps::skip(class, trie, text, state, true);
+        let found = steps::skip_comments(class, trie, text, over, false, comments);
+        if found.kind == closer {
+            return steps::take(class, trie, text, found);
+        }
+        let read = parse_field(class, trie, text, found, flag, base, parent, rest, comments);
+        let Parsed::On(behind) = read else {
+            return read;
+        };
+        state = behind;
+        left -= 1;
+    }
+    steps::refuse(state, 3)
+}
