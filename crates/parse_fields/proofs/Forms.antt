@@ -1,4 +1,4 @@
--- What each reader of annotations, fields, functions and enum members is, as its first call and what follows it. Assumes nothing.
+-- What each reader of names, annotations and fields is, as its first call and what follows it. Assumes nothing.
 use mathlib.Core.Path.{_≡_, refl}
 use mathlib.Core.Bool.{cond}
 use mathlib.Core.List.{List}

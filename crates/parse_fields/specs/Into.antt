@@ -1,5 +1,5 @@
--- What the readers of annotations, fields, functions and enum members do to the state and to both tables: their part of parser/specs/Definitions, with records
--- written as they are read. Contracts of this crate and of those above it cite it, and proofs/MeantFields and MeantFunctions show that it means the definitions;
+-- What the readers of names, annotations and fields do to the state and to both tables: their part of parser/specs/Definitions, with records
+-- written as they are read. Contracts of this crate and of those above it cite it, and proofs/MeantFields shows that it means the definitions;
 -- nothing else has to believe it. Assumes nothing: these are definitions.
 use mathlib.Core.Bool.{Bool, true, false, cond, _||_}
 use mathlib.Core.List.{List}

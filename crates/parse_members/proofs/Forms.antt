@@ -1,4 +1,4 @@
--- What each reader of annotations, fields, functions and enum members is, as its first call and what follows it. Assumes nothing.
+-- What each reader of functions and enum members is, as its first call and what follows it. Assumes nothing.
 use mathlib.Core.Path.{_≡_, refl}
 use mathlib.Core.Bool.{true, cond}
 use mathlib.Core.List.{List}
