@@ -98,7 +98,8 @@ use Rattle.parser.specs.Idl.{
   WithinProperties,
 }
 use Rattle.parser.proofs.Wf.{commentKinds}
-use Rattle.parser.proofs.KindLaws.{either, same-kind}
+use Rattle.token.proofs.Codes.{same-kind}
+use Rattle.parser.proofs.KindLaws.{either}
 
 -- ---- kinds
 

@@ -2,16 +2,12 @@
 --     step-law      behind the byte c the state s is the state that `step` gives for its class
 --     kind-law      the first rule of a state that the empty text matches is the one that `kindAt` gives
 -- Assumes nothing.
-use mathlib.Core.Path.{_≡_, refl, sym, ap, _∙_}
+use mathlib.Core.Path.{_≡_, refl, ap, _∙_}
 use mathlib.Core.Bool.{Bool, true, false, cond, Bool·beq}
-use mathlib.Core.List.{List, [], _∷_, map}
-use mathlib.Core.Logic.{⊎-elim}
-use Prim.Native.Nat.{ℕ, zero, suc, _+_, _-_, _<_, _≤_}
-use native.Mathlib.Nat.{le-of-suc-le-suc, not-suc-le-zero}
-use native.Mathlib.Omega.{arith}
+use mathlib.Core.List.{List, [], _∷_}
+use Prim.Native.Nat.{ℕ, _<_}
 use lib.Dec.{T, ltb, ltb→lt}
-use lib.ListN.{length, getD, take, drop, length-take, length-drop}
-use lib.Seq.{getD-take, getD-drop}
+use lib.ListN.{length, getD}
 use Rattle.token.specs.Regex.{Regex, nothing, empty, set, unset, seq, alt, star, within, nullable, isNothing, then, or, deriv}
 use Rattle.token.specs.Patterns.{Rule, rule}
 use Rattle.token.specs.Scan.{derivs, first}
@@ -47,8 +43,9 @@ use Rattle.token.specs.Automaton.{
   step,
   kindAt,
 }
-use Rattle.token.proofs.Numbers.{lt-or-le}
 use Rattle.token.proofs.Every.{both, both-left, both-right, every, at}
+use Rattle.token.proofs.Same.{same-ranges, tag, setOf, left, right as rightOf, same-regex, same-rules, rules-eq}
+use Rattle.token.specs.Code.{code, is}
 
 -- the two bytes are in the same sets of r, so they leave the same of it
 alike : ℕ → ℕ → Regex → Bool
@@ -136,88 +133,45 @@ reps-law : (s : State) (c : ℕ) → c < 256 → derivs c (rulesAt s) ≡ derivs
 unfolding right
 reps-law s c h = alikes-derivs c (getD reps (classOf c) 0) (rulesAt s) (both-right (ltb (classOf c) 60) _ (class-right s c h))
 
-map-at : {A : Type 0} (f : ℕ → List A) (xs : List ℕ) (k : ℕ) → k < length xs → getD (map f xs) k [] ≡ f (getD xs k 0)
-map-at f [] k h = absurd (not-suc-le-zero h)
-map-at f (x ∷ xs) zero h = refl
-map-at f (x ∷ xs) (suc k) h = map-at f xs k (le-of-suc-le-suc h)
+-- THE TEST of `step`, in each state: the representative of each class leaves the state that `step` gives
+stepped : State → ℕ → ℕ → Bool
+stepped s i c = same-rules (derivs c (rulesAt s)) (rulesAt (step s i))
 
--- the state behind a byte of each class from i on
-nexts : State → ℕ → List ℕ → List (List Rule)
-nexts s i [] = []
-nexts s i (x ∷ xs) = rulesAt (step s i) ∷ nexts s (suc i) xs
-
-nexts-at : (s : State) (xs : List ℕ) (i k : ℕ) → k < length xs → getD (nexts s i xs) k [] ≡ rulesAt (step s (i + k))
-unfolding nexts
-nexts-at s [] i k h = absurd (not-suc-le-zero h)
-nexts-at s (x ∷ xs) i zero h = ap (λ (n : ℕ). rulesAt (step s n)) (omega arith)
-nexts-at s (x ∷ xs) i (suc k) h = nexts-at s xs (suc i) k (le-of-suc-le-suc h) ∙ ap (λ (n : ℕ). rulesAt (step s n)) (omega arith)
-
--- THE TEST of `step`, in each state: the representative of each class leaves the state that `step` gives. In two halves, for the checker's limit
-low : State → Type 0
-low s = map (λ c. derivs c (rulesAt s)) (take 30 reps) ≡ nexts s 0 (take 30 reps)
-
-high : State → Type 0
-high s = map (λ c. derivs c (rulesAt s)) (drop 30 reps) ≡ nexts s 30 (drop 30 reps)
-
-start-low : low start
-unfolding low nexts rulesAt step openings reps derivs deriv isNothing nullable then or within
-start-low = refl
-
-start-high : high start
-unfolding high nexts rulesAt step openings reps derivs deriv isNothing nullable then or within
-start-high = refl
-
-step-test : (s : State) → low s × high s
-unfolding low high nexts rulesAt step openings reps derivs deriv isNothing nullable then or within
-step-test start = (start-low, start-high)
-step-test dead = (refl, refl)
-step-test blanks = (refl, refl)
-step-test comment = (refl, refl)
-step-test signed = (refl, refl)
-step-test dot = (refl, refl)
-step-test signedDot = (refl, refl)
-step-test slash = (refl, refl)
-step-test zeroed = (refl, refl)
-step-test whole = (refl, refl)
-step-test fraction = (refl, refl)
-step-test exponentSign = (refl, refl)
-step-test exponentDigit = (refl, refl)
-step-test exponentMark = (refl, refl)
-step-test hexMark = (refl, refl)
-step-test hexDigits = (refl, refl)
-step-test named = (refl, refl)
-step-test nameDot = (refl, refl)
-step-test block = (refl, refl)
-step-test blockStar = (refl, refl)
-step-test (inString true) = (refl, refl)
-step-test (inString false) = (refl, refl)
-step-test (escaped true) = (refl, refl)
-step-test (escaped false) = (refl, refl)
-step-test (closed k) = (refl, refl)
+step-test : (s : State) → T (every (stepped s) 0 reps)
+unfolding stepped same-rules same-regex same-ranges tag setOf left rightOf is code rulesAt step openings reps derivs deriv isNothing nullable then or within
+step-test start = tt
+step-test dead = tt
+step-test blanks = tt
+step-test comment = tt
+step-test signed = tt
+step-test dot = tt
+step-test signedDot = tt
+step-test slash = tt
+step-test zeroed = tt
+step-test whole = tt
+step-test fraction = tt
+step-test exponentSign = tt
+step-test exponentDigit = tt
+step-test exponentMark = tt
+step-test hexMark = tt
+step-test hexDigits = tt
+step-test named = tt
+step-test nameDot = tt
+step-test block = tt
+step-test blockStar = tt
+step-test (inString true) = tt
+step-test (inString false) = tt
+step-test (escaped true) = tt
+step-test (escaped false) = tt
+step-test (closed k) = tt
 
 pub reps-length : length reps ≡ 60
 unfolding reps
 reps-length = refl
 
-row : (s : State) (xs : List ℕ) (i k : ℕ) → map (λ c. derivs c (rulesAt s)) xs ≡ nexts s i xs → k < length xs
-    → derivs (getD xs k 0) (rulesAt s) ≡ rulesAt (step s (i + k))
-row s xs i k e h = sym (map-at (λ c. derivs c (rulesAt s)) xs k h) ∙ ap (λ (l : List (List Rule)). getD l k []) e ∙ nexts-at s xs i k h
-
 rep-step : (s : State) (k : ℕ) → k < 60 → derivs (getD reps k 0) (rulesAt s) ≡ rulesAt (step s k)
-unfolding low high
-rep-step s k h = ⊎-elim lower upper (lt-or-le k 30)
-  where
-    lower : k < 30 → derivs (getD reps k 0) (rulesAt s) ≡ rulesAt (step s k)
-    lower l =
-        let z : 0 + k ≡ k = omega arith in
-        let g : k < length (take 30 reps) = simp length-take (omega (arith, reps-length)) in
-        rw (getD-take 30 reps k 0 l, z) at (row s (take 30 reps) 0 k (step-test s .0) g)
-
-    upper : 30 ≤ k → derivs (getD reps k 0) (rulesAt s) ≡ rulesAt (step s k)
-    upper l =
-        let z : 30 + (k - 30) ≡ k = omega arith in
-        let g : k - 30 < length (drop 30 reps) = simp length-drop (omega (arith, reps-length)) in
-        rw (getD-drop 30 reps (k - 30) 0, z) at (row s (drop 30 reps) 30 (k - 30) (step-test s .1) g)
+unfolding stepped
+rep-step s k h = rules-eq _ _ (at (stepped s) reps 0 (step-test s) k (rw reps-length h))
 
 pub step-law : (s : State) (c : ℕ) → c < 256 → derivs c (rulesAt s) ≡ rulesAt (step s (classOf c))
 step-law s c h = reps-law s c h ∙ rep-step s (classOf c) (class-below c h)

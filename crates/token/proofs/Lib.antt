@@ -1,6 +1,8 @@
 pub mod Numbers
 pub mod Truth
 pub mod Every
+pub mod Codes
+pub mod Same
 pub mod Classes
 pub mod Reach
 pub mod Words
