@@ -101,7 +101,7 @@ source = open("crates/parser/proofs/Cases.antt").read()
 head, rest = source.split("pub edges-hold : All edges\n")
 opened = rest[: rest.index("edges-hold =")]
 head = re.sub(r"Edges\.\{[^}]*\}", "Edges.{Holds, refuses, accepts}", head)
-head = head.replace("use mathlib.Core.Path.{_≡_, refl}", "use mathlib.Core.Path.{_≡_, refl}\nuse mathlib.Core.List.{List, [], _∷_}")
+head = re.sub(r"^use ", "use mathlib.Core.List.{List, [], _∷_}\nuse ", head, count=1, flags=re.M)
 theorems = []
 for i, (text, refusal, nodes, comments, _) in enumerate(cases):
     edge = f"refuses {quoted(text)} {' '.join(map(str, refusal))}" if refusal else f"accepts {quoted(text)} {listed(nodes, listed)} {listed(comments, listed)}"
@@ -112,6 +112,7 @@ print(f"{len(cases)} texts, {sum(c[1] is None for c in cases)} of them accepted"
 source = open("crates/writer/proofs/Cases.antt").read()
 head, rest = source.split("-- a reading and a printing of a text at an indent")
 opened = re.search(r"unfolding (?:.|\n)*?(?=\nboth t indent)", rest).group(0)
+head = head.replace("use mathlib.Core.List.{", "use mathlib.Core.List.{List, ")
 head += f"unfoldable whole : String → ℕ → List ℕ\n{opened}\nwhole s i = W.printOf i (W.outcomeAt i (checked (bytes s)) (bytes s))\n"
 prints = [(c[0], n, p) for c in cases if c[4] for n, p in zip((0, 2, 8), c[4])]
 theorems = [f"p{i} : whole {quoted(t)} {n} ≡ bytes {quoted(p)}\nunfolding whole bytes\np{i} = refl\n" for i, (t, n, p) in enumerate(prints)]
