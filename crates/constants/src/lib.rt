@@ -1,0 +1,1 @@
+// The IDL's IntConstant and DoubleConstant beside the token patterns: definitions and laws, no code.

@@ -1,0 +1,230 @@
+-- The readers of parser's Values and Definitions that read a list, with the loop's constant as a parameter n; at 65537 they are those (proofs/Anchor).
+--
+use mathlib.Core.List.{List, [], _∷_}
+use mathlib.Core.Option.{Option, some, none}
+use Prim.Native.Nat.{ℕ, suc, zero}
+use Rattle.token.specs.Code.{is}
+use Rattle.token.specs.declared.Token.{Token}
+use Rattle.token.specs.declared.Token.the-variants as T
+use Rattle.lexer.specs.declared.Checked.{Checked}
+use Rattle.lexer.specs.declared.Checked.the-variants as C
+use Rattle.lexer.specs.Location.{between, opening}
+use Rattle.lexer.specs.Tokens.{Lexeme, tokens}
+use Rattle.lexer.specs.Check.{checked}
+use Rattle.ast.specs.Ast.{
+  FieldInitialValue,
+  ConstList,
+  ConstMap,
+  nil,
+  cons,
+  pnil,
+  Annotations,
+  absent,
+  annotations,
+  Field,
+  field,
+  EnumMember,
+  member,
+  Function,
+  function,
+  Structure,
+  Struct,
+  Union,
+  Exception,
+  Definition,
+  Include,
+  CppInclude,
+  Const,
+  Enum,
+  structure,
+  Service,
+}
+use Rattle.parser.specs.Steps.{_>>=_, _>>_, pos, Res, P, pure, test, kind, place, span, when, next, want, fail, start, here, taken, refuse, skip-trivia, loop}
+use Rattle.parser.specs.Values.{valuesEnd, put, mapProperty, valueBy}
+use Rattle.parser.specs.Definitions.{
+  nesting,
+  parseType,
+  parseAnnotation,
+  annotationsEnd,
+  parseFieldId,
+  parseRequired,
+  fieldNames,
+  membersEnd,
+  parseReturnType,
+  parseOneway,
+  parseInitializer,
+  parseInclude,
+  parseNamespace,
+  parseTypedef,
+  parseExtends,
+  documentEnd,
+}
+use Rattle.parser.specs.Read.{Outcome, refused, answered}
+
+-- ---- values
+
+unfoldable pub listValue : ℕ → P FieldInitialValue → Lexeme → P FieldInitialValue
+listValue n value t = do
+  vs ← loop nil cons (valuesEnd T.RightBracket) value n
+  e ← here
+  pure (ConstList (span (place t) e) vs)
+
+unfoldable pub mapValue : ℕ → P FieldInitialValue → Lexeme → P FieldInitialValue
+mapValue n value t = do
+  ps ← loop pnil put (valuesEnd T.RightBrace) (mapProperty value) n
+  e ← here
+  pure (ConstMap (span (place t) e) ps)
+
+unfoldable pub containerValue : ℕ → P FieldInitialValue → Lexeme → P FieldInitialValue
+containerValue n value t = test (is (kind t) T.LeftBracket) (listValue n value t) (mapValue n value t)
+
+unfoldable pub fieldValue : ℕ → ℕ → P FieldInitialValue
+fieldValue n zero = valueBy (refuse 23)
+fieldValue n (suc d) = valueBy (containerValue n (fieldValue n d))
+
+unfoldable pub parseValue : ℕ → P FieldInitialValue
+parseValue n = fieldValue n nesting
+
+-- ---- annotations
+
+unfoldable pub parseAnnotations : ℕ → P Annotations
+parseAnnotations n =
+    when (T.LeftParen ∷ [])
+    (do
+      b ← here
+      next
+      xs ← loop [] _∷_ annotationsEnd parseAnnotation n
+      e ← here
+      pure (annotations (span b e) xs))
+    (pure absent)
+
+-- ---- fields
+
+unfoldable pub parseDefault : ℕ → P (Option FieldInitialValue)
+parseDefault n = when (T.Equals ∷ []) (do next; v ← parseValue n; pure (some v)) (pure none)
+
+unfoldable pub parseField : ℕ → P Field
+parseField n = do
+  c ← taken
+  b ← start
+  i ← parseFieldId
+  r ← parseRequired
+  t ← parseType
+  m ← want fieldNames 8
+  v ← parseDefault n
+  a ← parseAnnotations n
+  e ← here
+  pure (field (span b e) c i r t m v a)
+
+unfoldable pub parseMembers : {A : Type 0} → ℕ → Token → Token → P A → P (List A)
+parseMembers n l r p = do
+  want (l ∷ []) 2
+  loop [] _∷_ (membersEnd r) p n
+
+unfoldable pub parseParameters : ℕ → P (List Field)
+parseParameters n = parseMembers n T.LeftParen T.RightParen (parseField n)
+
+-- ---- functions
+
+unfoldable pub parseThrows : ℕ → P (Option (List Field))
+parseThrows n = when (T.Throws ∷ []) (do next; fs ← parseParameters n; pure (some fs)) (pure none)
+
+unfoldable pub parseFunction : ℕ → P Function
+parseFunction n = do
+  c ← taken
+  o ← parseOneway
+  t ← parseReturnType
+  m ← want (T.Identifier ∷ []) 2
+  ps ← parseParameters n
+  th ← parseThrows n
+  skip-trivia
+  a ← parseAnnotations n
+  e ← here
+  pure (function (span (place m) e) c o t m ps th a)
+
+-- ---- enum members
+
+unfoldable pub parseEnumMember : ℕ → P EnumMember
+parseEnumMember n = do
+  c ← taken
+  m ← want (T.Identifier ∷ []) 19
+  v ← parseInitializer
+  a ← parseAnnotations n
+  e ← here
+  pure (member (span (place m) e) c m v a)
+
+-- ---- definitions
+
+unfoldable pub parseConst : ℕ → P Definition
+parseConst n = do
+  c ← taken
+  k ← next
+  t ← parseType
+  m ← want (T.Identifier ∷ []) 13
+  want (T.Equals ∷ []) 2
+  v ← parseValue n
+  e ← here
+  skip-trivia
+  pure (Const (span (place k) e) c t m v)
+
+unfoldable pub parseEnum : ℕ → P Definition
+parseEnum n = do
+  c ← taken
+  k ← next
+  m ← want (T.Identifier ∷ []) 15
+  xs ← parseMembers n T.LeftBrace T.RightBrace (parseEnumMember n)
+  a ← parseAnnotations n
+  e ← here
+  pure (Enum (span (place k) e) c m xs a)
+
+unfoldable pub parseStructure : ℕ → Structure → P Definition
+parseStructure n s = do
+  c ← taken
+  k ← next
+  m ← want (T.Identifier ∷ []) 16
+  xs ← parseMembers n T.LeftBrace T.RightBrace (parseField n)
+  a ← parseAnnotations n
+  e ← here
+  pure (structure s (span (place k) e) c m xs a)
+
+unfoldable pub parseService : ℕ → P Definition
+parseService n = do
+  c ← taken
+  k ← next
+  m ← want (T.Identifier ∷ []) 17
+  x ← parseExtends
+  xs ← parseMembers n T.LeftBrace T.RightBrace (parseFunction n)
+  a ← parseAnnotations n
+  e ← here
+  pure (Service (span (place k) e) c m x xs a)
+
+unfoldable pub parseDefinition : ℕ → P Definition
+parseDefinition n =
+    when (T.Include ∷ []) (parseInclude Include)
+    (when (T.CppInclude ∷ []) (parseInclude CppInclude)
+    (when (T.Namespace ∷ []) parseNamespace
+    (when (T.Const ∷ []) (parseConst n)
+    (when (T.Typedef ∷ []) parseTypedef
+    (when (T.Enum ∷ []) (parseEnum n)
+    (when (T.Struct ∷ []) (parseStructure n Struct)
+    (when (T.Union ∷ []) (parseStructure n Union)
+    (when (T.Exception ∷ []) (parseStructure n Exception)
+    (when (T.Service ∷ []) (parseService n)
+    (fail 2))))))))))
+
+unfoldable pub parseDocument : ℕ → P (List Definition)
+parseDocument n = loop [] _∷_ documentEnd (parseDefinition n) n
+
+-- ---- a text
+
+unfoldable pub parsed : ℕ → List ℕ → Res (List Definition)
+parsed n t = parseDocument n (pos (between opening opening) [] (tokens t opening))
+
+unfoldable pub outcomeBy : ℕ → Checked → List ℕ → Outcome
+outcomeBy n C.Fine t = answered (parsed n t) t
+outcomeBy n C.TooLong t = refused 20 0 0
+outcomeBy n (C.IllFormed p) t = refused 21 p 0
+outcomeBy n (C.Unrecognized p) t = refused 22 p 0
+
+unfoldable pub outcome : ℕ → List ℕ → Outcome
+outcome n t = outcomeBy n (checked t) t
