@@ -32,6 +32,7 @@ use Rattle.ast.specs.Ast.{
   pcons,
 }
 use Rattle.parser.specs.Steps.{
+  separators,
   kind,
   place,
   span,
@@ -79,7 +80,6 @@ use Rattle.parser.specs.Values.{
   valueBy,
   fieldValue,
 }
-use Rattle.parser.specs.Definitions.{separators}
 use Rattle.parser.proofs.Loops.{loop-end, loop-more}
 use Rattle.parser.specs.Idl.{
   BaseType,

@@ -14,7 +14,7 @@ use Rattle.token.specs.Code.{code, is, among}
 use Rattle.token.specs.declared.Token.{Token}
 use Rattle.token.specs.declared.Token.the-variants as T
 use Rattle.token.proofs.Codes.{kinds, kind-at, same-kind}
-use Rattle.parser.specs.Definitions.{separators}
+use Rattle.parser.specs.Steps.{separators}
 use Rattle.parser.proofs.Wf.{commentKinds}
 
 pub either : {X : Type 0} (a b : Bool) → (a || b) ≡ true → (a ≡ true → X) → (b ≡ true → X) → X

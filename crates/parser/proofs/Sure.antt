@@ -28,6 +28,7 @@ use Rattle.ast.specs.Ast.{
   CppInclude,
 }
 use Rattle.parser.specs.Steps.{
+  separators,
   kind,
   bytes,
   place,
@@ -149,11 +150,11 @@ waits-stop false false c e = cc
 
 over-waits : (c : Fate) (k : Token) → fate over c k ≡ wait → among k commentKinds ≡ true
 unfolding fate
-over-waits c k e = waits-over (among k D.separators) (among k commentKinds) c e
+over-waits c k e = waits-over (among k separators) (among k commentKinds) c e
 
 stop-waits : (c : Fate) (k : Token) → fate stop c k ≡ wait → among k commentKinds ≡ true
 unfolding fate
-stop-waits c k e = waits-stop (among k D.separators) (among k commentKinds) c e
+stop-waits c k e = waits-stop (among k separators) (among k commentKinds) c e
 
 abbrev pub GoodL : (Token → List ℕ → Type 0) → Lexeme → Type 0
 GoodL Good t = Good (kind t) (bytes t)

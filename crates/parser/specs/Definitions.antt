@@ -41,12 +41,9 @@ use Rattle.ast.specs.Ast.{
   structure,
   Service,
 }
-use Rattle.parser.specs.Steps.{_>>=_, _>>_, pos, ok, P, pure, test, bytes, place, span, when, next, want, fail, start, here, taken, refuse, skip-separator, skip-comments, skip-comments-discard, skip-trivia, closed, many}
+use Rattle.parser.specs.Steps.{_>>=_, _>>_, pos, ok, P, pure, test, bytes, place, span, when, next, want, fail, start, here, taken, refuse, skip-separator, skip-comments, skip-comments-discard, skip-trivia, separators, closed, many}
 use Rattle.parser.specs.Types.{fieldType}
 use Rattle.parser.specs.Values.{fieldValue}
-
-abbrev pub separators : List Token
-separators = T.Comma ∷ T.Semicolon ∷ []
 
 -- up to 32 containers inside one another
 unfoldable pub nesting : ℕ

@@ -95,7 +95,7 @@ taken (pos l c ts) = ok c (pos l [] ts)
 pub data Fate : Type 0 where
   stop over wait : Fate
 
-separators : List Token
+abbrev pub separators : List Token
 separators = T.Comma ∷ T.Semicolon ∷ []
 
 comments : List Token
@@ -103,7 +103,7 @@ comments = T.LineComment ∷ T.BlockComment ∷ []
 
 -- by the fate of a separator, and that of a comment
 unfoldable pub fate : Fate → Fate → Token → Fate
-unfolding separators comments
+unfolding comments
 fate s c k = cond (among k separators) s (cond (among k comments) c stop)
 
 unfoldable pub by : Fate → St → St → St → St

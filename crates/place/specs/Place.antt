@@ -12,6 +12,7 @@ use Rattle.token.specs.declared.Scan.the-variants.{Miss, Hit}
 use Rattle.lexer.specs.declared.location.Lexer.{Lexer}
 use Rattle.lexer.specs.declared.location.Span.{Span}
 use Rattle.lexer.specs.Location.{behind, endsLine, pass, spanOf, opening}
+use Rattle.lexer.specs.Check.{limit}
 
 -- kind and length of what a text starts with; a byte that starts no token is passed alone and ends no line
 unfoldable pub kindOf : Scan → Token
@@ -34,7 +35,7 @@ least a b = cond (ltb a b) a b
 
 -- the place of an offset, which may lie in a token; one past the end, or past 65,536 bytes, counts as that
 unfoldable pub placeOf : List ℕ → ℕ → Span
-placeOf t o = spanOf (walk t T.Blank 0 (least o (least (length t) 65536)) opening)
+placeOf t o = spanOf (walk t T.Blank 0 (least o (least (length t) limit)) opening)
 
 -- for the code: the lexer behind what a text starts with, at most m bytes of it
 unfoldable pub step : List ℕ → ℕ → Lexer → Lexer

@@ -22,6 +22,7 @@ use Rattle.ast.proofs.Counts.{note-counts, owned-count}
 use Rattle.steps.specs.declared.state.State.{State}
 use Rattle.parser.specs.Steps as S
 use Rattle.parser.specs.Steps.{
+  separators,
   kind,
   place,
   St,
@@ -39,7 +40,6 @@ use Rattle.parser.specs.Steps.{
   skip-comments-discard,
   skip-trivia,
 }
-use Rattle.parser.specs.Definitions.{separators}
 use Rattle.steps.specs.Into.{
   put,
   advanced,

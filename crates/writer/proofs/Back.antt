@@ -18,11 +18,11 @@ use Rattle.ast.specs.Lists.{maps, opt, All, anil, acons}
 use Rattle.ast.specs.Ast.{FieldType, FieldInitialValue, Elements, nil, cons, Properties, pnil, Annotation, Annotations, absent, annotations, Required, default, required, optional, Field, field, EnumMember, member, Function, function, Structure, Struct, Union, Exception, Definition, Include, CppInclude, Namespace, Const, Typedef, Enum, structure, Service}
 use Rattle.ast.specs.Drop.{dropField, dropFunction, dropParams}
 use Rattle.ast.proofs.Forget.{nowhere, bareL, bares, forgetType, forgetValue, forgetElements, forgetProperties, forgetAnnotation, forgetAnnotations, forgetField, forgetMember, forgetFunction, forgetDefinition, forget}
-use Rattle.parser.specs.Steps.{kind, place, St, pos, Res, ok, P, bind, test, peek, when, next, want, start, here, taken, Fate, stop, over, wait, fate, by, pass, skip, skip-separator, skip-comments, skip-comments-discard, skip-trivia, closed, loop, many}
+use Rattle.parser.specs.Steps.{kind, place, St, pos, Res, ok, P, bind, test, peek, when, next, want, start, here, taken, Fate, stop, over, wait, fate, by, pass, skip, skip-separator, skip-comments, skip-comments-discard, skip-trivia, closed, loop, many, separators}
 use Rattle.parser.specs.Types.{leafTypes, containerTypes, complexType, mapType, containerType, typeBy, fieldType}
 use Rattle.parser.specs.Values.{leafValues, openers, valuesEnd, property, put, mapProperty, listValue, mapValue, containerValue, valueBy, fieldValue}
 use Rattle.parser.specs.Definitions as D
-use Rattle.parser.specs.Definitions.{separators, nesting, parseType, parseValue, oneSeparator, parseAnnotation, annotationsEnd, parseAnnotations, parseFieldId, parseRequired, parseDefault, parseField, membersEnd, parseMembers, parseParameters, parseThrows, parseReturnType, parseOneway, parseFunction, parseInitializer, parseEnumMember, parseInclude, parseNamespace, parseConst, parseTypedef, parseEnum, parseStructure, parseExtends, parseService, parseDefinition, documentEnd, parseDocument}
+use Rattle.parser.specs.Definitions.{nesting, parseType, parseValue, oneSeparator, parseAnnotation, annotationsEnd, parseAnnotations, parseFieldId, parseRequired, parseDefault, parseField, membersEnd, parseMembers, parseParameters, parseThrows, parseReturnType, parseOneway, parseFunction, parseInitializer, parseEnumMember, parseInclude, parseNamespace, parseConst, parseTypedef, parseEnum, parseStructure, parseExtends, parseService, parseDefinition, documentEnd, parseDocument}
 use Rattle.parser.proofs.Same.{kind-bare, bytes-bare, place-bare, span-nowhere}
 use Rattle.parser.proofs.KindLaws.{either}
 use Rattle.parser.proofs.Loops.{loop-end, loop-more}

@@ -2,6 +2,7 @@
 use mathlib.Core.Path.{refl, _∙_}
 use borrow.Author.Needs.{needs}
 use Rattle.token.specs.Tables.{classes, trie}
+use Rattle.lexer.specs.Check.{limit}
 use Rattle.place.specs.Place.{placeOf}
 use Rattle.place.proofs.WalkLaws.{clipped}
 use Rattle.place.proofs.find.Statement.{statement}
@@ -14,7 +15,7 @@ reached-requires c κs =
     (refl, refl, f .0, f .1)
 
 returns : tie.Need-returns
-unfolding placeOf
+unfolding placeOf limit
 returns c = c .reached .ensures ∙ rw (c .before .least2 .ensures, c .before .before .before .before .least .ensures)
 
 pub find-spec : {M : Type 1} → statement M
