@@ -43,10 +43,9 @@ use Rattle.ast.specs.Tree.{
   fieldTree,
 }
 use Rattle.steps.specs.declared.state.State.{State}
-use Rattle.parser.specs.Steps.{kind, bytes, place, span, St, Res, P, test, peek, when, next, want, many}
+use Rattle.parser.specs.Steps.{kind, bytes, place, span, St, Res, P, test, peek, when, next, want, separators, many}
 use Rattle.parser.specs.Definitions as D
 use Rattle.parser.specs.Definitions.{
-  separators,
   isId,
   oneSeparator,
   parseType,
