@@ -20,7 +20,9 @@ def words(text):
     text = re.sub(r'"[^"]*"', " ", text)
     for word in WORD.findall(text):
         yield word
-        # mixfix operators are used without their underscores; a qualified name is ALIAS.name
+        if word == "do":
+            yield from (">>=", ">>")
+        # a qualified name is ALIAS.name
         if "." in word.strip("."):
             yield tuple(word.split(".", 1))
 

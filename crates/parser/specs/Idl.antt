@@ -1,4 +1,5 @@
--- Types and constant values as Apache's Thrift IDL has them: productions [23] to [35] over lexemes, as derivations. Assumes nothing: these are definitions.
+-- Types and constant values as Apache's Thrift IDL has them: productions [23] to [31], [34] and [35] over lexemes, as derivations; [32] and [33], over the bytes of
+-- a lexeme, stand in constants/specs/Constants.
 -- `X ts x e r`: the tokens ts begin with a run that derives x, whose last token is at e, and r is left behind it.
 -- Each departure of rico is marked (docs/DIFFERENCES.md has its smallest text).
 use mathlib.Core.List.{List, _∷_}
@@ -55,7 +56,8 @@ pub data DerivesType : List Lexeme → FieldType → LOC → List Lexeme → Typ
   list : {a : FieldType} {w w1 w2 : List ℕ} {l l1 l2 e : LOC} {ts r : List Lexeme} → DerivesType ts a e (lexeme T.RightAngle w2 l2 ∷ r) →
       DerivesType (lexeme T.List w l ∷ lexeme T.LeftAngle w1 l1 ∷ ts) (ListType (span l l2) (lexeme T.List w l) a) l2 r
 
--- [31] the ConstValues of one token. [32] IntConstant and [33] DoubleConstant are the lexer's, as are [36] Literal and [37] Identifier.
+-- [31] the ConstValues of one token. [32] IntConstant and [33] DoubleConstant are the lexer's (constants/proofs/Whole holds them to its tokens), as are
+-- [36] Literal and [37] Identifier.
 -- Departures: a boolean and a hexadecimal number are values of their own; a literal has escapes (docs/DIFFERENCES.md)
 pub data Constant : Token → Type 0 where
   int : Constant T.IntegerLiteral
