@@ -1,4 +1,5 @@
 pub mod CutLaws
+pub mod ExtentLaws
 pub mod PlaceLaws
 pub mod CheckLaws
 pub mod Ascii

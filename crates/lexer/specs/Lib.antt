@@ -2,3 +2,4 @@ pub mod Cuts
 pub mod Location
 pub mod Tokens
 pub mod Check
+pub mod Extent

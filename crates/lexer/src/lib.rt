@@ -3,7 +3,7 @@ pub mod location;
 pub mod table;
 
 ghost use mathlib.Core.Path.{_≡_};
-ghost use Prim.Native.Nat.{_≤_};
+ghost use Prim.Native.Nat.{_<_, _≤_};
 ghost use lib.ListN.{length, drop};
 ghost use Rattle.token.specs.Tables.{classes, trie as nodes};
 ghost use Rattle.utf8.specs.Found.{found};
@@ -11,6 +11,7 @@ ghost use Rattle.lexer.specs.Cuts.{cuts, unrecognized};
 ghost use Rattle.lexer.specs.Location.{Placed};
 ghost use Rattle.lexer.specs.Tokens.{skipped, next};
 ghost use Rattle.lexer.specs.Check.{checked};
+ghost use Rattle.lexer.specs.Extent.{Extent};
 use location::Lexer;
 use location::Next;
 use location::ParserToken;
@@ -69,6 +70,27 @@ pub fn next_token(class: &[u8; 256], trie: &[u8; 512], text: &[u8], lexer: Lexer
     }
 }
 
+// How many bytes at an offset can be passed at once: one of a mark and of blanks, all of any other token; none where no token starts.
+fn extent(class: &[u8; 256], trie: &[u8; 512], text: &[u8], at: usize) -> usize
+    requires { ⌜ (now class ≡ classes) × (now trie ≡ nodes) × (at < length (now text)) ⌝ }
+    ensures { λ r. ⌜ Extent (now (text .entry)) at r ⌝ }
+{
+    let k = scan::class_at(class, text, at);
+    if scan::MARK <= k {
+        if k == scan::NONE {
+            return 0;
+        }
+        return 1;
+    }
+    if scan::is_letter(k) {
+        return scan::word_extent(class, text, at);
+    }
+    match scan::scan_token(class, trie, text, at) {
+        Scan::Hit(_, n) => n,
+        Scan::Miss => 0,
+    }
+}
+
 // The first offset where no token starts, the text cut from an offset on.
 pub fn unrecognized(class: &[u8; 256], trie: &[u8; 512], text: &[u8], from: usize) -> Found
     requires { ⌜ (now class ≡ classes) × (now trie ≡ nodes) ⌝ }
@@ -76,10 +98,10 @@ pub fn unrecognized(class: &[u8; 256], trie: &[u8; 512], text: &[u8], from: usiz
 {
     let mut at = from;
     while at < text.len() {
-        let found = scan::scan_token(class, trie, text, at);
-        let Scan::Hit(_, n) = found else {
+        let n = extent(class, trie, text, at);
+        if n == 0 {
             return Found::At(at);
-        };
+        }
         at += n;
     }
     Found::Nowhere

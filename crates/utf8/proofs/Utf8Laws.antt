@@ -14,8 +14,8 @@ use native.Mathlib.Omega.{arith}
 use native.Mathlib.Numerals.{add-one}
 use borrow.Author.Tests.{le-leb, lt-leb, leb-true}
 use lib.Dec.{leb}
-use lib.ListN.{length, take, drop, getD, replicate, drop-of-length-le, length-drop, take-append-drop}
-use lib.Seq.{drop-cons, drop-drop}
+use lib.ListN.{length, take, drop, getD, replicate, drop-of-length-le, length-drop, length-take, take-append-drop}
+use lib.Seq.{drop-cons, drop-drop, getD-take, getD-drop}
 use Rattle.token.specs.Regex.{Range, to}
 use Rattle.utf8.specs.Utf8.{tail, sequences, begins, width, sequence, illFrom, illFormed, WellFormed}
 
@@ -240,6 +240,22 @@ ill-step t i (suc k) h e f =
 
 pub ascii-step : (t : List ℕ) (i : ℕ) → i < length t → getD t i 0 < 128 → illFrom (drop i t) i 0 ≡ illFrom (drop (i + 1) t) (i + 1) 0
 ascii-step t i h l = ill-step t i 1 h (sym (rw (drop-cons t i 0 h) (width-ascii (getD t i 0) (drop (suc i) t) l))) (λ e. omega arith)
+
+-- n bytes below 128 are passed
+ascii-steps : (t : List ℕ) (i n : ℕ) → i + n ≤ length t → ((j : ℕ) → j < n → getD t (i + j) 0 < 128) → illFrom (drop i t) i 0 ≡ illFrom (drop (i + n) t) (i + n) 0
+ascii-steps t i zero h f = rw add-zero
+ascii-steps t i (suc n) h f =
+    let m : i + 1 + n ≡ i + suc n = omega arith in
+    let z : getD t i 0 < 128 = rw add-zero at (f 0 (omega arith)) in
+    ascii-step t i (omega arith) z ∙ rw m at (ascii-steps t (i + 1) n (omega arith) (λ j g. let e : i + 1 + j ≡ i + suc j = omega arith in rw e (f (suc j) (omega arith))))
+
+-- a part of the text whose highest byte is below 128 is passed
+pub ascii-part : (t : List ℕ) (i e b : ℕ) → i ≤ e → e ≤ length t → ((j : ℕ) → j < length (take (e - i) (drop i t)) → getD (take (e - i) (drop i t)) j 0 ≤ b) → b < 128
+    → illFrom (drop i t) i 0 ≡ illFrom (drop e t) e 0
+ascii-part t i e b h k f l =
+    let m : i + (e - i) ≡ e = omega arith in
+    let n : length (take (e - i) (drop i t)) ≡ e - i = simp (length-take, length-drop) (omega arith) in
+    rw m at (ascii-steps t i (e - i) (omega arith) (λ j g. let x = f j (omega arith) in let y = rw (getD-take (e - i) (drop i t) j 0 g, getD-drop i t j 0) at x in omega arith))
 
 pub width-fits : (t : List ℕ) (i n : ℕ) → i < length t → n ≡ width sequences (drop i t) → i + n ≤ length t
 width-fits t i n h e = omega (arith, width-length (drop i t), length-drop i t)

@@ -1,2 +1,3 @@
 pub mod Found
 pub mod Utf8
+pub mod Passed

@@ -7,6 +7,10 @@ ghost use lib.ListN.{length, getD, drop, replicate};
 ghost use Rattle.token.specs.Regex.{to};
 ghost use Rattle.utf8.specs.Utf8.{tail, sequences, begins, width, illFormed};
 ghost use Rattle.utf8.specs.Found.{found};
+ghost use Rattle.utf8.specs.Passed.{Passed};
+
+// How much of a text is looked at at once.
+const PART: usize = 256;
 
 // An offset that a search finds.
 pub enum Found {
@@ -82,20 +86,59 @@ fn width_at(text: &[u8], at: usize) -> usize
     0
 }
 
-// The offset of the first ill-formed sequence.
-pub fn ill_formed(text: &[u8]) -> Found
-    ensures { λ r. ⌜ r ≡ found (illFormed (now (text .entry))) ⌝ }
+// The highest byte of a text; 0 where it has none.
+fn highest(text: &[u8]) -> u8
+    ensures { λ r. ⌜ ((i : ℕ) → i < length (now (text .entry)) → getD (now (text .entry)) i 0 ≤ r) ⌝ }
 {
-    let mut at: usize = 0;
-    while at < text.len() {
+    let mut top: u8 = 0;
+    let mut i: usize = 0;
+    while i < text.len() {
+        if top < text[i] {
+            top = text[i];
+        }
+        i += 1;
+    }
+    top
+}
+
+// The sequences from `from` on that start before `stop`, passed: the offset behind them, or that of an ill-formed one, which is below `stop`.
+fn pass_sequences(text: &[u8], from: usize, stop: usize) -> usize
+    requires { ⌜ (from ≤ length (now text)) × (stop ≤ length (now text)) ⌝ }
+    ensures { λ r. ⌜ Passed (now (text .entry)) from stop r ⌝ }
+{
+    let mut at = from;
+    while at < stop {
         if text[at] < 128 {
             at += 1;
         } else {
             let n = width_at(text, at);
             if n == 0 {
-                return Found::At(at);
+                return at;
             }
             at += n;
+        }
+    }
+    at
+}
+
+// The offset of the first ill-formed sequence. A part of the text without a byte from 128 on is passed whole.
+pub fn ill_formed(text: &[u8]) -> Found
+    ensures { λ r. ⌜ r ≡ found (illFormed (now (text .entry))) ⌝ }
+{
+    let mut at: usize = 0;
+    while at < text.len() {
+        let mut stop = text.len();
+        if PART < stop - at {
+            stop = at + PART;
+        }
+        if highest(&text[at..stop]) < 128 {
+            at = stop;
+        } else {
+            let behind = pass_sequences(text, at, stop);
+            if behind < stop {
+                return Found::At(behind);
+            }
+            at = behind;
         }
     }
     Found::Nowhere
