@@ -1,5 +1,6 @@
 pub mod CutLaws
 pub mod ExtentLaws
+pub mod ByteLaws
 pub mod PlaceLaws
 pub mod CheckLaws
 pub mod Ascii

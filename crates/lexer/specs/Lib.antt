@@ -3,3 +3,4 @@ pub mod Location
 pub mod Tokens
 pub mod Check
 pub mod Extent
+pub mod Marked

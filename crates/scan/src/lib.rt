@@ -4,8 +4,8 @@ mod words;
 use token::Scan;
 use token::Token;
 ghost use mathlib.Core.Path.{_≡_};
-ghost use mathlib.Core.Bool.{_&&_};
-ghost use lib.Dec.{leb, ltb};
+ghost use mathlib.Core.Bool.{_&&_, _||_};
+ghost use lib.Dec.{eqb, leb, ltb};
 ghost use Prim.Native.Nat.{_+_, _<_, _≤_};
 ghost use lib.ListN.{length, drop, getD};
 ghost use Rattle.token.specs.Tables.{classes, trie as nodes};
@@ -34,6 +34,8 @@ const SLASH: u8 = 38;
 
 const LINE_FEED: u8 = 39;
 
+const RETURN: u8 = 40;
+
 const DOUBLE_QUOTE: u8 = 41;
 
 const BACKSLASH: u8 = 42;
@@ -50,6 +52,16 @@ pub const MARK: u8 = 46;
 pub const NONE: u8 = 58;
 
 pub const BLANK: u8 = 59;
+
+// Whether a byte of this class ends a line: `\n`, or `\r` and `\f`.
+pub fn is_line_end(k: u8) -> bool
+    ensures { λ r. ⌜ r ≡ (eqb k 39 || eqb k 40) ⌝ }
+{
+    if k == LINE_FEED {
+        return true;
+    }
+    k == RETURN
+}
 
 // Whether a byte of this class starts a word.
 pub fn is_letter(k: u8) -> bool
@@ -404,7 +416,7 @@ fn word_of(class: &[u8; 256], trie: &[u8; 512], text: &[u8], first: u8) -> Scan
 }
 
 // The token of one byte, by its class.
-fn mark_of(k: u8) -> Scan
+pub fn mark_of(k: u8) -> Scan
     ensures { λ r. ⌜ r ≡ opened k ⌝ }
 {
     match k {
