@@ -15,7 +15,7 @@ use Rattle.token.specs.declared.Token.the-variants as T
 use Rattle.lexer.specs.declared.location.Lexer.{Lexer}
 use Rattle.lexer.specs.Location.{endsLine, behind, pass, Placed, opening}
 
-placed-behind : (p : Bool) (s : Lexer) → Placed s → s .at + 1 ≤ 65536 → Placed (behind p s)
+pub placed-behind : (p : Bool) (s : Lexer) → Placed s → s .at + 1 ≤ 65536 → Placed (behind p s)
 unfolding behind
 placed-behind true s h l = record { lines = omega (arith, h .lines); line-begun = omega arith; below = omega arith }
 placed-behind false s h l = record { lines = omega (arith, h .lines); line-begun = omega (arith, h .line-begun); below = omega arith }

@@ -2,3 +2,5 @@ pub mod Cuts
 pub mod Location
 pub mod Tokens
 pub mod Check
+pub mod Extent
+pub mod Marked

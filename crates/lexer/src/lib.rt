@@ -3,7 +3,7 @@ pub mod location;
 pub mod table;
 
 ghost use mathlib.Core.Path.{_≡_};
-ghost use Prim.Native.Nat.{_≤_};
+ghost use Prim.Native.Nat.{_<_, _≤_};
 ghost use lib.ListN.{length, drop};
 ghost use Rattle.token.specs.Tables.{classes, trie as nodes};
 ghost use Rattle.utf8.specs.Found.{found};
@@ -11,6 +11,9 @@ ghost use Rattle.lexer.specs.Cuts.{cuts, unrecognized};
 ghost use Rattle.lexer.specs.Location.{Placed};
 ghost use Rattle.lexer.specs.Tokens.{skipped, next};
 ghost use Rattle.lexer.specs.Check.{checked};
+ghost use Rattle.lexer.specs.Extent.{Extent};
+ghost use Rattle.lexer.specs.Marked.{marked};
+ghost use Rattle.token.specs.Automaton.{opened};
 use location::Lexer;
 use location::Next;
 use location::ParserToken;
@@ -43,6 +46,19 @@ pub fn skipped(token: Token) -> bool
     code == 0
 }
 
+// The token of one byte that stands at the lexer's offset, by the byte's class.
+fn mark(k: u8, from: Lexer) -> Next
+    requires { ⌜ Placed from × (from .at < 65536) ⌝ }
+    ensures { λ r. ⌜ r ≡ marked (opened k) from ⌝ }
+{
+    let Scan::Hit(token, _) = scan::mark_of(k) else {
+        return Next::Unrecognized(from.at);
+    };
+    let behind = location::behind(from, false);
+    let loc = from.until(behind);
+    Next::On(ParserToken { token, loc }, behind)
+}
+
 // The next token of the text behind the lexer's offset: rico's create_parser_token.
 pub fn next_token(class: &[u8; 256], trie: &[u8; 512], text: &[u8], lexer: Lexer) -> Next
     requires { ⌜ (now class ≡ classes) × (now trie ≡ nodes) × (length (now text) ≤ 65536) × Placed lexer ⌝ }
@@ -54,18 +70,48 @@ pub fn next_token(class: &[u8; 256], trie: &[u8; 512], text: &[u8], lexer: Lexer
         if text.len() <= at {
             return Next::End;
         }
-        let found = scan::scan_token(class, trie, text, at);
-        let Scan::Hit(token, n) = found else {
-            return Next::Unrecognized(from.at);
-        };
-        let end = at + n;
-        let behind = location::pass_lexeme(token, &text[at..end], from);
-        if skipped(token) {
-            from = behind;
+        let k = scan::class_at(class, text, at);
+        if k == scan::BLANK {
+            from = location::behind(from, false);
+        } else if scan::is_line_end(k) {
+            from = location::behind(from, true);
+        } else if scan::MARK <= k {
+            return mark(k, from);
         } else {
-            let loc = from.until(behind);
-            return Next::On(ParserToken { token, loc }, behind);
+            let found = scan::scan_token(class, trie, text, at);
+            let Scan::Hit(token, n) = found else {
+                return Next::Unrecognized(from.at);
+            };
+            let end = at + n;
+            let behind = location::pass_lexeme(token, &text[at..end], from);
+            if skipped(token) {
+                from = behind;
+            } else {
+                let loc = from.until(behind);
+                return Next::On(ParserToken { token, loc }, behind);
+            }
         }
+    }
+}
+
+// How many bytes at an offset can be passed at once: one of a mark and of blanks, all of any other token; none where no token starts.
+fn extent(class: &[u8; 256], trie: &[u8; 512], text: &[u8], at: usize) -> usize
+    requires { ⌜ (now class ≡ classes) × (now trie ≡ nodes) × (at < length (now text)) ⌝ }
+    ensures { λ r. ⌜ Extent (now (text .entry)) at r ⌝ }
+{
+    let k = scan::class_at(class, text, at);
+    if scan::MARK <= k {
+        if k == scan::NONE {
+            return 0;
+        }
+        return 1;
+    }
+    if scan::is_letter(k) {
+        return scan::word_extent(class, text, at);
+    }
+    match scan::scan_token(class, trie, text, at) {
+        Scan::Hit(_, n) => n,
+        Scan::Miss => 0,
     }
 }
 
@@ -76,10 +122,10 @@ pub fn unrecognized(class: &[u8; 256], trie: &[u8; 512], text: &[u8], from: usiz
 {
     let mut at = from;
     while at < text.len() {
-        let found = scan::scan_token(class, trie, text, at);
-        let Scan::Hit(_, n) = found else {
+        let n = extent(class, trie, text, at);
+        if n == 0 {
             return Found::At(at);
-        };
+        }
         at += n;
     }
     Found::Nowhere

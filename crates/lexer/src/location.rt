@@ -75,7 +75,7 @@ impl Lexer {
 }
 
 // The lexer behind one byte, which ends a line or not.
-fn behind(lexer: Lexer, ends: bool) -> Lexer
+pub fn behind(lexer: Lexer, ends: bool) -> Lexer
     requires { ⌜ Placed lexer × (lexer .at < 65536) ⌝ }
     ensures { λ r. ⌜ r ≡ behind ends lexer ⌝ }
 {

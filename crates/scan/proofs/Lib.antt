@@ -6,3 +6,4 @@ pub mod Spins
 pub mod ScanLaws
 pub mod WordLaws
 pub mod MarkLaws
+pub mod FirstByte

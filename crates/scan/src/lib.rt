@@ -4,6 +4,8 @@ mod words;
 use token::Scan;
 use token::Token;
 ghost use mathlib.Core.Path.{_≡_};
+ghost use mathlib.Core.Bool.{_&&_, _||_};
+ghost use lib.Dec.{eqb, leb, ltb};
 ghost use Prim.Native.Nat.{_+_, _<_, _≤_};
 ghost use lib.ListN.{length, drop, getD};
 ghost use Rattle.token.specs.Tables.{classes, trie as nodes};
@@ -32,6 +34,8 @@ const SLASH: u8 = 38;
 
 const LINE_FEED: u8 = 39;
 
+const RETURN: u8 = 40;
+
 const DOUBLE_QUOTE: u8 = 41;
 
 const BACKSLASH: u8 = 42;
@@ -42,10 +46,35 @@ const HASH: u8 = 44;
 
 const SIGN: u8 = 45;
 
-const BLANK: u8 = 59;
+// From here on a class is that of a token of one byte, but for the last two: the bytes that start no token, and the blanks.
+pub const MARK: u8 = 46;
+
+pub const NONE: u8 = 58;
+
+pub const BLANK: u8 = 59;
+
+// Whether a byte of this class ends a line: `\n`, or `\r` and `\f`.
+pub fn is_line_end(k: u8) -> bool
+    ensures { λ r. ⌜ r ≡ (eqb k 39 || eqb k 40) ⌝ }
+{
+    if k == LINE_FEED {
+        return true;
+    }
+    k == RETURN
+}
+
+// Whether a byte of this class starts a word.
+pub fn is_letter(k: u8) -> bool
+    ensures { λ r. ⌜ r ≡ (leb 8 k && ltb k 36) ⌝ }
+{
+    if k < E {
+        return false;
+    }
+    k < DOT
+}
 
 // The class of a byte of the text.
-fn class_at(class: &[u8; 256], text: &[u8], i: usize) -> u8
+pub fn class_at(class: &[u8; 256], text: &[u8], i: usize) -> u8
     requires { ⌜ (now class ≡ classes) × (i < length (now text)) ⌝ }
     ensures { λ r. ⌜ r ≡ classOf (getD (now (text .entry)) i 0) ⌝ }
 {
@@ -303,29 +332,45 @@ fn slash_of(class: &[u8; 256], text: &[u8]) -> Scan
     Scan::Miss
 }
 
+// Where the identifier that goes on at `at` ends, a keyword or not.
+fn name_end(class: &[u8; 256], text: &[u8], at: usize) -> usize
+    requires { ⌜ (now class ≡ classes) × Reached (now text) State.named at (Hit T.Identifier at) ⌝ }
+    ensures { λ r. ⌜ (longest (now (text .entry)) ≡ Hit T.Identifier r) × (at ≤ r) ⌝ }
+{
+    let mut i = run_above(class, text, at, DOT);
+    while i < text.len() {
+        if class_at(class, text, i) != DOT {
+            return i;
+        }
+        if text.len() <= i + 1 {
+            return i;
+        }
+        let k = class_at(class, text, i + 1);
+        if k < E {
+            return i;
+        }
+        if DOT <= k {
+            return i;
+        }
+        i = run_above(class, text, i + 2, DOT);
+    }
+    i
+}
+
 // The identifier that goes on at `at` and is no keyword.
 fn name_of(class: &[u8; 256], text: &[u8], at: usize) -> Scan
     requires { ⌜ (now class ≡ classes) × Reached (now text) State.named at (Hit T.Identifier at) × NoWord (now text) at ⌝ }
     ensures { λ r. ⌜ r ≡ scan (now (text .entry)) ⌝ }
 {
-    let mut i = run_above(class, text, at, DOT);
-    while i < text.len() {
-        if class_at(class, text, i) != DOT {
-            return Scan::Hit(Token::Identifier, i);
-        }
-        if text.len() <= i + 1 {
-            return Scan::Hit(Token::Identifier, i);
-        }
-        let k = class_at(class, text, i + 1);
-        if k < E {
-            return Scan::Hit(Token::Identifier, i);
-        }
-        if DOT <= k {
-            return Scan::Hit(Token::Identifier, i);
-        }
-        i = run_above(class, text, i + 2, DOT);
-    }
-    Scan::Hit(Token::Identifier, i)
+    Scan::Hit(Token::Identifier, name_end(class, text, at))
+}
+
+// How long the word at an offset is, a keyword or not; a letter stands there.
+pub fn word_extent(class: &[u8; 256], text: &[u8], at: usize) -> usize
+    requires { ⌜ (now class ≡ classes) × (at < length (now text)) × (8 ≤ classOf (getD (now text) at 0)) × (classOf (getD (now text) at 0) < 36) ⌝ }
+    ensures { λ r. ⌜ longest (drop at (now (text .entry))) ≡ Hit T.Identifier r ⌝ }
+{
+    name_end(class, &text[at..], 1)
 }
 
 // The word whose first piece ends at `i` in the node `node` of the trie: an identifier if a dot and a letter follow.
@@ -371,7 +416,7 @@ fn word_of(class: &[u8; 256], trie: &[u8; 512], text: &[u8], first: u8) -> Scan
 }
 
 // The token of one byte, by its class.
-fn mark_of(k: u8) -> Scan
+pub fn mark_of(k: u8) -> Scan
     ensures { λ r. ⌜ r ≡ opened k ⌝ }
 {
     match k {
