@@ -16,7 +16,7 @@ fn fill_u32(slice: &mut [u32], numbers: &[u32])
 {
     let mut i = 0;
     while i < slice.len() {
-        let mut number = 0;
+        let mut number = 0; // behind the numbers
         if i < numbers.len() {
             number = numbers[i];
         }
@@ -25,6 +25,7 @@ fn fill_u32(slice: &mut [u32], numbers: &[u32])
     }
 }
 
+// The same in 64 bits.
 fn fill_u64(slice: &mut [u64], numbers: &[u64])
     ensures { λ _. ⌜ now (slice .exit) ≡ laid (now (numbers .entry)) (now (slice .entry)) ⌝ }
 {
