@@ -56,23 +56,23 @@ unfoldable pub rowsBy : (List Definition → List (List ℕ)) → Outcome (List 
 rowsBy f (accepted ds) = f ds
 rowsBy f (refused e p n) = []
 
+-- what each case of the code's answer says
+unfoldable pub said : Answer → Outcome (List ℕ)
+said (Accepted n c) = accepted (n ∷ c ∷ [])
+said (Refused e p n) = refused e p n
+
 -- what a reading answers, and both tables afterwards
 pub record Reading : Type 0 where
   pub says : Outcome (List ℕ)
   pub nodes : List ℕ
   pub comments : List ℕ
 
+-- the code's answer and both tables, as a reading
+abbrev pub told : Answer → List ℕ → List ℕ → Reading
+told a ns cs = record { says = said a; nodes = ns; comments = cs }
+
 unfoldable pub reading : List ℕ → List ℕ → List ℕ → Reading
 reading t ns cs =
     let o = outcome t in
     let a = answer o ns cs in
     record { says = a; nodes = left a (rowsBy nodeRows o) ns; comments = left a (rowsBy notes o) cs }
-
--- what each case of the code's answer says
-unfoldable pub said : Answer → Outcome (List ℕ)
-said (Accepted n c) = accepted (n ∷ c ∷ [])
-said (Refused e p n) = refused e p n
-
--- the code's answer and both tables, as a reading
-abbrev pub told : Answer → List ℕ → List ℕ → Reading
-told a ns cs = record { says = said a; nodes = ns; comments = cs }

@@ -30,7 +30,7 @@ use Rattle.parser.proofs.Lexemes.{Stands, tokens-stand, HasRule, tokens-ruled, 
 use Rattle.parser.proofs.Paid.{nodes-most, notes-most}
 use Rattle.writer.specs.Print.{bytesOf, pieces, printed}
 use Rattle.writer.specs.declared.Printed.the-variants.{Accepted, Refused}
-use Rattle.writer.specs.Write.{widest, outcomeAt, held, answer, written, printOf, Printing, said, told, printing}
+use Rattle.writer.specs.Write.{widest, outcomeAt, fittedOut, answer, written, printOf, Printing, said, told, printing}
 use Rattle.cursor.specs.Onto.{Reached}
 use Rattle.printer.specs.Onto.{opening, refusing, fits, ended, writing, byAnswer, byReading, all}
 use Rattle.write_fields.proofs.Ahead.{Rows, under, unders, ownedBefore, noted, noteds, Ahead, Fits, Over, Got, got, Job, At}
@@ -230,7 +230,7 @@ module _ (text : List ℕ) (indent : ℕ) (t u o : List ℕ) where
 
   read-given : (ds : List Definition) → outcome text ≡ accepted ds → All (EachDefinition (Good text)) ds →
       let a = R.fitted ds t u in byAnswer a text indent (left a (nodeRows ds) t) (left a (notes ds) u) o ≡ given (accepted ds)
-  unfolding R.fitted byAnswer answer held left written rowsBy printOf said
+  unfolding R.fitted byAnswer answer fittedOut left written rowsBy printOf said
   read-given ds found good = go (ltb (room t) (length (nodeRows ds))) refl (ltb (room u) (length (notes ds))) refl
     where
       go : (a : Bool) → ltb (room t) (length (nodeRows ds)) ≡ a → (b : Bool) → ltb (room u) (length (notes ds)) ≡ b →

@@ -22,13 +22,13 @@ unfoldable pub outcomeAt : ℕ → List ℕ → Outcome (List Definition)
 outcomeAt indent t = cond (ltb limit (length t)) (refused 20 0 0) (cond (ltb widest indent) (refused 26 0 0) (outcome t))
 
 -- then 27; the bytes written stand behind the counts
-unfoldable pub held : Outcome (List ℕ) → List ℕ → List ℕ → Outcome (List ℕ)
-held (accepted ns) print out = cond (ltb (length out) (length print)) (refused 27 0 0) (accepted (ns ++ length print ∷ []))
-held (refused e p n) print out = refused e p n
+unfoldable pub fittedOut : Outcome (List ℕ) → List ℕ → List ℕ → Outcome (List ℕ)
+fittedOut (accepted ns) print out = cond (ltb (length out) (length print)) (refused 27 0 0) (accepted (ns ++ length print ∷ []))
+fittedOut (refused e p n) print out = refused e p n
 
 -- 24 and 25 as in a reading, then 27
 unfoldable pub answer : ℕ → Outcome (List Definition) → List ℕ → List ℕ → List ℕ → Outcome (List ℕ)
-answer indent (accepted ds) nodes comments out = held (fitted ds nodes comments) (printed indent ds) out
+answer indent (accepted ds) nodes comments out = fittedOut (fitted ds nodes comments) (printed indent ds) out
 answer indent (refused e p n) nodes comments out = refused e p n
 
 -- the output afterwards: the print and 0 past it, or all 0
@@ -40,6 +40,11 @@ unfoldable pub printOf : ℕ → Outcome (List Definition) → List ℕ
 printOf indent (accepted ds) = printed indent ds
 printOf indent (refused e p n) = []
 
+-- what each case of the code's answer says
+unfoldable pub said : Printed → Outcome (List ℕ)
+said (Accepted n c b) = accepted (n ∷ c ∷ b ∷ [])
+said (Refused e p n) = refused e p n
+
 -- what a printing answers, both tables and the output afterwards
 pub record Printing : Type 0 where
   pub says : Outcome (List ℕ)
@@ -47,17 +52,12 @@ pub record Printing : Type 0 where
   pub comments : List ℕ
   pub output : List ℕ
 
+-- the code's answer, both tables and the output, as a printing
+abbrev pub told : Printed → List ℕ → List ℕ → List ℕ → Printing
+told a ns cs out = record { says = said a; nodes = ns; comments = cs; output = out }
+
 unfoldable pub printing : List ℕ → ℕ → List ℕ → List ℕ → List ℕ → Printing
 printing t indent ns cs out =
     let o = outcomeAt indent t in
     let a = answer indent o ns cs out in
     record { says = a; nodes = left a (rowsBy nodeRows o) ns; comments = left a (rowsBy notes o) cs; output = written a (printOf indent o) out }
-
--- what each case of the code's answer says
-unfoldable pub said : Printed → Outcome (List ℕ)
-said (Accepted n c b) = accepted (n ∷ c ∷ b ∷ [])
-said (Refused e p n) = refused e p n
-
--- the code's answer, both tables and the output, as a printing
-abbrev pub told : Printed → List ℕ → List ℕ → List ℕ → Printing
-told a ns cs out = record { says = said a; nodes = ns; comments = cs; output = out }
