@@ -113,7 +113,7 @@ source = open("crates/writer/proofs/Cases.antt").read()
 head, rest = source.split("-- a reading and a printing of a text at an indent")
 opened = re.search(r"unfolding (?:.|\n)*?(?=\nboth t indent)", rest).group(0)
 head = head.replace("use mathlib.Core.List.{", "use mathlib.Core.List.{List, ")
-head += f"unfoldable whole : String → ℕ → List ℕ\n{opened}\nwhole s i = W.printOf i (W.outcomeAt i (checked (bytes s)) (bytes s))\n"
+head += f"unfoldable whole : String → ℕ → List ℕ\n{opened}\nwhole s i = W.printOf i (W.outcomeAt i (bytes s))\n"
 prints = [(c[0], n, p) for c in cases if c[4] for n, p in zip((0, 2, 8), c[4])]
 theorems = [f"p{i} : whole {quoted(t)} {n} ≡ bytes {quoted(p)}\nunfolding whole bytes\np{i} = refl\n" for i, (t, n, p) in enumerate(prints)]
 module("Print", head, theorems)

@@ -16,14 +16,15 @@ int main(void) {
     static const char source[] = "struct A{1:required i32 a=5;}";
     const uint8_t *text = (const uint8_t *)source;
     size_t n = sizeof source - 1;
-    uint32_t nodes[HIRVELAN_NODES(29)], comments[HIRVELAN_COMMENTS(29)], number = 7;
+    uint32_t nodes[HIRVELAN_NODES(29)], comments[HIRVELAN_COMMENTS(29)], few[5] = {7, 7, 7, 7, 7};
     uint32_t shared[HIRVELAN_NODES(29)];
     uint8_t out[64];
     hirvelan_answer answer;
     hirvelan_spot spot;
 
-    expect(hirvelan_check_safe(NULL, 0, &number) == HIRVELAN_OK && number == 0, "check of null and 0 is an empty text");
-    expect(hirvelan_check_safe(NULL, 1, &number) == HIRVELAN_NULL, "check of null and 1");
+    expect(hirvelan_check_safe(NULL, 0, &answer) == HIRVELAN_OK && answer.number == 0, "check of null and 0 is an empty text");
+    expect(hirvelan_check_safe((const uint8_t *)"enum E{}@", 9, &answer) == HIRVELAN_OK && answer.number == 22 && answer.place == 8 && answer.length == 0, "check says where");
+    expect(hirvelan_check_safe(NULL, 1, &answer) == HIRVELAN_NULL, "check of null and 1");
     expect(hirvelan_check_safe(text, n, NULL) == HIRVELAN_NULL, "check without a place for the answer");
 
     expect(hirvelan_read_safe(NULL, 0, NULL, 0, NULL, 0, &answer) == HIRVELAN_OK && answer.number == 0 && answer.nodes == 0, "read of nothing");
@@ -48,5 +49,10 @@ int main(void) {
     expect(hirvelan_place_safe(NULL, 0, 5, &spot) == HIRVELAN_OK && spot.line == 1 && spot.column == 1 && spot.offset == 0, "place in nothing");
     expect(hirvelan_place_safe(text, n, 9, &spot) == HIRVELAN_OK && spot.line == 1 && spot.column == 10, "place");
     expect(hirvelan_place_safe(NULL, 5, 5, &spot) == HIRVELAN_NULL && hirvelan_place_safe(text, n, 5, NULL) == HIRVELAN_NULL, "place of null");
+
+    hirvelan_check((const uint8_t *)"enum E{}@", 9, few, 2);
+    expect(few[0] == 22 && few[1] == 8 && few[2] == 7, "an answer of two numbers gets two");
+    hirvelan_check((const uint8_t *)"enum E{}@", 9, few, 4);
+    expect(few[0] == 22 && few[1] == 8 && few[2] == 0 && few[3] == 0 && few[4] == 7, "an answer of four numbers gets three, and 0");
     return failed;
 }

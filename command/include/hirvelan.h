@@ -5,6 +5,7 @@
  * The `_safe` wrappers below test what can be tested.
  *
  * A slice is a pointer and a length. A length counts elements: bytes of a text or an output, numbers of a table or an answer.
+ * An answer or a place of any length gets its numbers at the front, as many as it holds, and 0 behind them.
  * A record is nine numbers: kind, parent, flags, then index, line and column of start and of end.
  */
 #ifndef HIRVELAN_H
@@ -27,21 +28,21 @@ typedef char hirvelan_needs_64_bits[sizeof(size_t) == 8 ? 1 : -1];
 #define HIRVELAN_NODES(n) ((size_t)18 * (size_t)(n))
 #define HIRVELAN_COMMENTS(n) ((size_t)9 * (size_t)(n))
 
-/* The number of the text's refusal before the grammar: 20, 21, 22, or 0.
- * The caller sees to: `text` is not null, also if the length is 0, and readable for its length. */
-uint32_t hirvelan_check(const uint8_t *text, size_t text_length);
+/* The checks before the grammar: 20, 21, 22. `answer` gets 0, or a refusal's number, place and length.
+ * The caller sees to: no pointer is null, also if its length is 0; each is valid for its length; answer is aligned and does not overlap the text. */
+void hirvelan_check(const uint8_t *text, size_t text_length, uint32_t *answer, size_t answer_length);
 
-/* Reads a text into both tables. `answer` gets three numbers: 0, nodes, comments; or a refusal's number, place and length. If its length is below 3 it stays as it is.
+/* Reads a text into both tables. `answer` gets 0, nodes, comments; or a refusal's number, place and length.
  * Tables may have any length: what does not fit is 24 or 25. After a refusal they are zero, else zero behind the last record.
  * The caller sees to: no pointer is null, also if its length is 0; each is valid for its length and aligned; nodes, comments and answer overlap neither each other nor the text. */
 void hirvelan_read(const uint8_t *text, size_t text_length, uint32_t *nodes, size_t nodes_length, uint32_t *comments, size_t comments_length, uint32_t *answer, size_t answer_length);
 
-/* Prints a text with `indent` spaces a level, 0 to 8. `answer` gets four numbers: 0, nodes, comments, bytes written; or a refusal's number, place and length, and 0. If its length is below 4 it stays as it is.
+/* Prints a text with `indent` spaces a level, 0 to 8. `answer` gets 0, nodes, comments, bytes written; or a refusal's number, place and length.
  * A print that `out` does not hold is 27; lend more and call again. 8 bytes for each byte of text are enough for ordinary files.
  * The caller sees to the same as in hirvelan_read, for `out` too. */
 void hirvelan_print(const uint8_t *text, size_t text_length, uint32_t indent, uint32_t *nodes, size_t nodes_length, uint32_t *comments, size_t comments_length, uint8_t *out, size_t out_length, uint64_t *answer, size_t answer_length);
 
-/* Where an offset stands. `place` gets three numbers: line and column from 1, columns in bytes, and the offset, held to the text's end and to 65,536. If its length is below 3 it stays as it is.
+/* Where an offset stands. `place` gets line and column from 1, columns in bytes, and the offset, held to the text's end and to 65,536.
  * The caller sees to: no pointer is null; each is valid for its length; place is aligned and does not overlap the text. */
 void hirvelan_place(const uint8_t *text, size_t text_length, uint32_t offset, uint32_t *place, size_t place_length);
 
@@ -85,13 +86,21 @@ static inline int hirvelan_apart(const hirvelan_part *parts, int count) {
 }
 
 /* Tests: null. */
-static inline int hirvelan_check_safe(const uint8_t *text, size_t text_length, uint32_t *number) {
+static inline int hirvelan_check_safe(const uint8_t *text, size_t text_length, hirvelan_answer *answer) {
     static const uint8_t none = 0;
+    uint32_t said[3] = {0, 0, 0};
     hirvelan_part part;
     int fault = hirvelan_part_of(text, text_length, 1, &part);
-    if (!fault && !number) fault = HIRVELAN_NULL;
-    if (!fault) *number = hirvelan_check(text ? text : &none, text_length);
-    return fault;
+    if (!fault && !answer) fault = HIRVELAN_NULL;
+    if (fault) return fault;
+    hirvelan_check(text ? text : &none, text_length, said, 3);
+    answer->number = said[0];
+    answer->nodes = 0;
+    answer->comments = 0;
+    answer->place = said[1];
+    answer->length = said[2];
+    answer->bytes = 0;
+    return HIRVELAN_OK;
 }
 
 /* Tests: null, alignment, overlap. The answer is the wrapper's own, so it overlaps nothing. */

@@ -165,7 +165,7 @@ impl Wanted {
 }
 
 extern "C" {
-    fn hirvelan_check(text: *const u8, length: usize) -> u32;
+    fn hirvelan_check(text: *const u8, length: usize, answer: *mut u32, answer_length: usize);
     fn hirvelan_read(text: *const u8, length: usize, nodes: *mut u32, nodes_length: usize, comments: *mut u32, comments_length: usize, answer: *mut u32, answer_length: usize);
     fn hirvelan_print(text: *const u8, length: usize, indent: u32, nodes: *mut u32, nodes_length: usize, comments: *mut u32, comments_length: usize, out: *mut u8, out_length: usize, answer: *mut u64, answer_length: usize);
 }
@@ -238,18 +238,6 @@ impl<T: Cell> Lent<T> {
         self.guards()
     }
 
-    /// As `differs`, but the rest is as it was lent.
-    fn differs_kept(&self, front: &[T]) -> Option<String> {
-        let part = self.part();
-        for (at, cell) in part.iter().enumerate() {
-            let wanted = front.get(at).copied().unwrap_or(T::pattern(self.seed, GUARD + at));
-            if *cell != wanted {
-                return Some(format!("[{at}] of {}: {wanted} wanted, {cell} given", part.len()));
-            }
-        }
-        self.guards()
-    }
-
     fn guards(&self) -> Option<String> {
         let whole = self.length + 2 * GUARD;
         let at = (0..GUARD).chain(self.length + GUARD..whole).find(|at| self.cells[*at] != T::pattern(self.seed, *at))?;
@@ -287,13 +275,19 @@ impl Port {
 
     pub fn check(&mut self, text: &[u8], wanted: &Wanted) -> Result<(), Fault> {
         self.calls += 1;
-        let number = match wanted.refusal {
-            Some([number @ 20..=22, ..]) => number,
-            _ => 0,
+        let answer = match wanted.refusal {
+            Some(refusal) if (20..=22).contains(&refusal[0]) => refusal,
+            _ => [0; 3],
         };
-        let given = unsafe { hirvelan_check(text.as_ptr(), text.len()) };
-        if given != number {
-            return Err(fault(&format!("check: {number} wanted, {given} given"), String::new()));
+        let room = match self.calls as usize % 64 {
+            short @ 0..=5 => short,
+            _ => 3,
+        };
+        let a = self.answer.lend(room, self.calls as u32);
+        unsafe { hirvelan_check(text.as_ptr(), text.len(), a, room) };
+        if let Some(first) = self.answer.differs(&answer[..room.min(3)]) {
+            let given = self.answer.part();
+            return Err(fault(&format!("check: {} wanted, {} given", answer[0], given.first().unwrap_or(&0)), format!("wanted {answer:?}, given {given:?}; answer{first}")));
         }
         Ok(())
     }
@@ -307,9 +301,8 @@ impl Port {
         let seed = rng.next() as u32;
         let (n, c, a) = (self.nodes.lend(nodes, seed), self.comments.lend(comments, !seed), self.answer.lend(room, seed));
         unsafe { hirvelan_read(text.as_ptr(), text.len(), n, nodes, c, comments, a, room) };
-        let front: &[u32] = if room < 3 { &[] } else { &answer };
         let parts = [
-            ("answer", self.answer.differs_kept(front)),
+            ("answer", self.answer.differs(&answer[..room.min(3)])),
             ("nodes", self.nodes.differs(node_rows)),
             ("comments", self.comments.differs(comment_rows)),
         ];
@@ -334,9 +327,8 @@ impl Port {
         let seed = rng.next() as u32;
         let (n, c, o, a) = (self.nodes.lend(nodes, seed), self.comments.lend(comments, !seed), self.out.lend(out, seed >> 7), self.printed.lend(room, seed));
         unsafe { hirvelan_print(text.as_ptr(), text.len(), indent, n, nodes, c, comments, o, out, a, room) };
-        let front: &[u64] = if room < 4 { &[] } else { &answer };
         let parts = [
-            ("answer", self.printed.differs_kept(front)),
+            ("answer", self.printed.differs(&answer[..room.min(4)])),
             ("nodes", self.nodes.differs(node_rows)),
             ("comments", self.comments.differs(comment_rows)),
             ("output", self.out.differs(print)),

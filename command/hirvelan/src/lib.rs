@@ -59,9 +59,13 @@ fn records(table: &[u32], count: usize) -> Vec<Record> {
     table.chunks_exact(WIDTH).take(count).map(|row| row.try_into().expect("a row has nine numbers")).collect()
 }
 
-/// The number of a text's refusal before the grammar (20, 21, 22), 0 where there is none. The text's slice is all that is lent.
-pub fn check(text: &[u8]) -> u32 {
-    raw::check(text)
+/// The checks before the grammar: 20, 21, 22. They need no tables.
+pub fn check(text: &[u8]) -> Result<(), Refusal> {
+    let [number, place, length] = raw::check(text);
+    if number != 0 {
+        return Err(Refusal { number, place, length });
+    }
+    Ok(())
 }
 
 /// Reads a text. The tables are long enough, so 24 and 25 do not occur.
@@ -125,8 +129,15 @@ mod tests {
         let long = vec![b' '; LONGEST + 1];
         assert_eq!(read(&long), Err(Refusal { number: 20, place: 0, length: 0 }));
         assert_eq!(print(&long, 2), Err(Refusal { number: 20, place: 0, length: 0 }));
-        assert_eq!(check(&long), 20);
-        assert_eq!(check(&long[1..]), 0);
+        assert_eq!(check(&long), Err(Refusal { number: 20, place: 0, length: 0 }));
+        assert_eq!(check(&long[1..]), Ok(()));
+    }
+
+    #[test]
+    fn the_check_says_where() {
+        assert_eq!(check(b"enum E{}\xff"), Err(Refusal { number: 21, place: 8, length: 0 }));
+        assert_eq!(check(b"enum E{}@"), Err(Refusal { number: 22, place: 8, length: 0 }));
+        assert_eq!(check(b"enum E{"), Ok(()));
     }
 
     #[test]

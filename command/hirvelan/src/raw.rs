@@ -1,7 +1,7 @@
 //! The library's entries, as C sees them. A slice is a pointer and a length.
 
 extern "C" {
-    fn hirvelan_check(text: *const u8, length: usize) -> u32;
+    fn hirvelan_check(text: *const u8, length: usize, answer: *mut u32, answer_length: usize);
     fn hirvelan_read(text: *const u8, length: usize, nodes: *mut u32, nodes_length: usize, comments: *mut u32, comments_length: usize, answer: *mut u32, answer_length: usize);
     fn hirvelan_print(
         text: *const u8, length: usize, indent: u32, nodes: *mut u32, nodes_length: usize, comments: *mut u32, comments_length: usize,
@@ -13,8 +13,10 @@ extern "C" {
 // In each call below: a slice's pointer is not null, aligned and valid for its length, an empty one's too;
 // what is lent by `&mut` overlaps nothing else that is lent. The contracts ask no more.
 
-pub fn check(text: &[u8]) -> u32 {
-    unsafe { hirvelan_check(text.as_ptr(), text.len()) }
+pub fn check(text: &[u8]) -> [u32; 3] {
+    let mut answer = [0; 3];
+    unsafe { hirvelan_check(text.as_ptr(), text.len(), answer.as_mut_ptr(), answer.len()) };
+    answer
 }
 
 pub fn read(text: &[u8], nodes: &mut [u32], comments: &mut [u32]) -> [u32; 3] {

@@ -11,8 +11,7 @@ use native.Mathlib.Omega.{arith}
 use lib.ListN.{length}
 use Rattle.token.specs.declared.Token.{Token}
 use Rattle.token.specs.declared.Token.the-variants as T
-use Rattle.lexer.specs.declared.Checked.{Checked}
-use Rattle.lexer.specs.declared.Checked.the-variants as C
+use Rattle.lexer.specs.Outcome.{Outcome, accepted, refused as rejected}
 use Rattle.lexer.specs.Location.{between, opening}
 use Rattle.lexer.specs.Tokens.{Lexeme, tokens}
 use Rattle.lexer.specs.Check.{checked}
@@ -260,8 +259,6 @@ pub outcome-larger : (n : ℕ) (t : List ℕ) → 65536 < n → outcome n t ≡ 
 unfolding outcome R.outcome outcomeBy R.outcomeBy
 outcome-larger n t g = go (checked t) refl
   where
-    go : (c : Checked) → checked t ≡ c → outcomeBy n c t ≡ R.outcomeBy c t
-    go C.Fine e = rw (parsed-larger n t (fine-means t e .0) g)
-    go C.TooLong e = refl
-    go (C.IllFormed p) e = refl
-    go (C.Unrecognized p) e = refl
+    go : (c : Outcome (List ℕ)) → checked t ≡ c → outcomeBy n c t ≡ R.outcomeBy c t
+    go (accepted ns) e = rw (parsed-larger n t (fine-means t e .0) g)
+    go (rejected e p l) h = refl

@@ -6,8 +6,7 @@ use Prim.Native.Nat.{ℕ, suc, zero}
 use Rattle.token.specs.Code.{is}
 use Rattle.token.specs.declared.Token.{Token}
 use Rattle.token.specs.declared.Token.the-variants as T
-use Rattle.lexer.specs.declared.Checked.{Checked}
-use Rattle.lexer.specs.declared.Checked.the-variants as C
+use Rattle.lexer.specs.Outcome.{Outcome, accepted, refused}
 use Rattle.lexer.specs.Location.{between, opening}
 use Rattle.lexer.specs.Tokens.{Lexeme, tokens}
 use Rattle.lexer.specs.Check.{checked}
@@ -59,7 +58,7 @@ use Rattle.parser.specs.Definitions.{
   parseExtends,
   documentEnd,
 }
-use Rattle.parser.specs.Read.{Outcome, refused, answered}
+use Rattle.parser.specs.Read.{answered}
 
 -- ---- values
 
@@ -220,11 +219,9 @@ parseDocument n = loop [] _∷_ documentEnd (parseDefinition n) n
 unfoldable pub parsed : ℕ → List ℕ → Res (List Definition)
 parsed n t = parseDocument n (pos (between opening opening) [] (tokens t opening))
 
-unfoldable pub outcomeBy : ℕ → Checked → List ℕ → Outcome
-outcomeBy n C.Fine t = answered (parsed n t) t
-outcomeBy n C.TooLong t = refused 20 0 0
-outcomeBy n (C.IllFormed p) t = refused 21 p 0
-outcomeBy n (C.Unrecognized p) t = refused 22 p 0
+unfoldable pub outcomeBy : ℕ → Outcome (List ℕ) → List ℕ → Outcome (List Definition)
+outcomeBy n (accepted ns) t = answered (parsed n t) t
+outcomeBy n (refused e p l) t = refused e p l
 
-unfoldable pub outcome : ℕ → List ℕ → Outcome
+unfoldable pub outcome : ℕ → List ℕ → Outcome (List Definition)
 outcome n t = outcomeBy n (checked t) t

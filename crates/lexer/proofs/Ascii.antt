@@ -28,7 +28,7 @@ use Rattle.token.proofs.Reach.{reach-start, reach-stop}
 use Rattle.token.proofs.Words.{scan-plain}
 use Rattle.token.proofs.Trie.{no-word-first}
 use Rattle.lexer.specs.declared.location.Lexer.{Lexer}
-use Rattle.lexer.specs.declared.Checked.the-variants as C
+use Rattle.lexer.specs.Outcome.{accepted}
 use Rattle.utf8.specs.Utf8.{illFormed, WellFormed}
 use Rattle.lexer.specs.Cuts.{Cuts, end, stuck, cut, cuts, unrecognized}
 use Rattle.lexer.specs.Location.{pass, between, opening}
@@ -144,20 +144,20 @@ well-lexemes (cut k w cs) s h = go (skipped k) (well-lexemes cs (pass w k s) (h 
     go true x = x
     go false x = (h .0, x)
 
-fine-both : (o p : Option ℕ) → verdict o p ≡ C.Fine → (o ≡ none) × (p ≡ none)
+fine-both : (o p : Option ℕ) {ns : List ℕ} → verdict o p ≡ accepted ns → (o ≡ none) × (p ≡ none)
 unfolding verdict
 fine-both (some q) p e = let z : _≡_ {A = ℕ} 0 1 = cc in absurd (omega arith)
 fine-both none (some q) e = let z : _≡_ {A = ℕ} 0 1 = cc in absurd (omega arith)
 fine-both none none e = (refl, refl)
 
 -- what the check finds fine is well formed and cut to its end
-pub fine-means : (t : List ℕ) → checked t ≡ C.Fine → (length t ≤ 65536) × WellFormed t × (unrecognized (cuts t) 0 ≡ none)
+pub fine-means : (t : List ℕ) {ns : List ℕ} → checked t ≡ accepted ns → (length t ≤ 65536) × WellFormed t × (unrecognized (cuts t) 0 ≡ none)
 unfolding checked limit
 fine-means t e =
     let h : length t ≤ 65536 = fine-fits t e in
     let f = fine-both (illFormed t) (unrecognized (cuts t) 0) (rw (le-ltb 65536 (length t) h) at e) in
     (h, f .0, f .1)
 
-pub fine-tokens : (t : List ℕ) → Bytes t → checked t ≡ C.Fine → WellTokens (tokens t opening)
+pub fine-tokens : (t : List ℕ) {ns : List ℕ} → Bytes t → checked t ≡ accepted ns → WellTokens (tokens t opening)
 unfolding tokens opening
 fine-tokens t b e = let f = fine-means t e in well-lexemes (cuts t) _ (well-cuts t b (f .1) (f .2))

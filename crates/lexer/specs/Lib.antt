@@ -1,3 +1,4 @@
+pub mod Outcome
 pub mod Cuts
 pub mod Location
 pub mod Tokens

@@ -10,7 +10,7 @@ ghost use Rattle.utf8.specs.Found.{found};
 ghost use Rattle.lexer.specs.Cuts.{cuts, unrecognized};
 ghost use Rattle.lexer.specs.Location.{Placed};
 ghost use Rattle.lexer.specs.Tokens.{skipped, next};
-ghost use Rattle.lexer.specs.Check.{checked};
+ghost use Rattle.lexer.specs.Check.{checked, refusal};
 ghost use Rattle.lexer.specs.Extent.{Extent};
 ghost use Rattle.lexer.specs.Marked.{marked};
 ghost use Rattle.token.specs.Automaton.{opened};
@@ -133,7 +133,7 @@ pub fn unrecognized(class: &[u8; 256], trie: &[u8; 512], text: &[u8], from: usiz
 
 // The checks of a whole text that come before the grammar: 20, 21, 22.
 pub fn check(text: &[u8]) -> Checked
-    ensures { λ r. ⌜ r ≡ checked (now (text .entry)) ⌝ }
+    ensures { λ r. ⌜ refusal r ≡ checked (now (text .entry)) ⌝ }
 {
     if LIMIT < text.len() {
         return Checked::TooLong;

@@ -1,61 +1,66 @@
--- An answer as its numbers. Assumes nothing.
+-- An answer as its numbers.
+--     place-small                               the place of 21 and of 22 is a number of 32 bits
+--     check-answer, read-answer, print-answer   what each call answers and leaves, from what the code's answer says
 use mathlib.Core.Path.{_≡_, refl, sym, ap, _∙_}
-use mathlib.Core.List.{List, [], _∷_}
-use Prim.Native.Nat.{ℕ, _≤_, _<_}
+use mathlib.Core.Bool.{Bool, true, false}
+use mathlib.Core.List.{List}
+use mathlib.Core.Option.{Option, some, none}
+use Prim.Native.Nat.{ℕ, _≤_}
 use native.Mathlib.Omega.{arith}
-use lib.ListN.{length, set, drop}
-use borrow.Author.Tests.{lt-ltb, le-ltb}
+use borrow.Author.Tests.{ltb-false}
+use lib.Dec.{ltb}
+use lib.ListN.{length}
+use Rattle.utf8.specs.Utf8.{illFormed}
+use Rattle.utf8.specs.Found.{found}
+use Rattle.lexer.specs.Outcome.{Outcome, refused, numbers}
+use Rattle.lexer.specs.Cuts.{cuts, unrecognized}
+use Rattle.lexer.specs.Check.{limit, verdict, checked, refusal}
+use Rattle.lexer.specs.declared.Checked.{Checked}
 use Rattle.parser.specs.declared.Answer.{Answer}
-use Rattle.parser.specs.Read.{Reading, told, numbers}
+use Rattle.parser.specs.Read as R
+use Rattle.parser.specs.Read.{Reading}
 use Rattle.writer.specs.declared.Printed.{Printed}
+use Rattle.writer.specs.Write as W
 use Rattle.writer.specs.Write.{Printing}
-use Rattle.writer.specs.Write.{told as print-told}
-use Rattle.link.specs.Told.{atFront, four}
+use Rattle.reader.proofs.Whole.{ill-small, unknown-small}
+use Rattle.link.specs.Told.{laid}
 
-stores : (a : List ℕ) (x y z : ℕ) → 3 ≤ length a → set (set (set a 0 x) 1 y) 2 z ≡ x ∷ y ∷ z ∷ drop 3 a
-stores [] x y z h = absurd (omega arith)
-stores (a ∷ []) x y z h = absurd (omega arith)
-stores (a ∷ b ∷ []) x y z h = absurd (omega arith)
-stores (a ∷ b ∷ c ∷ l) x y z h = refl
+-- the numbers of what an answer says, in a slice
+laid-same : {o q : Outcome (List ℕ)} (l l′ ns : List ℕ) → o ≡ q → numbers o ≡ ns → l′ ≡ laid ns l → l′ ≡ laid (numbers q) l
+laid-same l l′ ns e n k = k ∙ ap (λ (x : List ℕ). laid x l) (sym n ∙ ap numbers e)
 
-stores-four : (a : List ℕ) (w x y z : ℕ) → 4 ≤ length a → set (set (set (set a 0 w) 1 x) 2 y) 3 z ≡ w ∷ x ∷ y ∷ z ∷ drop 4 a
-stores-four [] w x y z h = absurd (omega arith)
-stores-four (a ∷ []) w x y z h = absurd (omega arith)
-stores-four (a ∷ b ∷ []) w x y z h = absurd (omega arith)
-stores-four (a ∷ b ∷ c ∷ []) w x y z h = absurd (omega arith)
-stores-four (a ∷ b ∷ c ∷ d ∷ l) w x y z h = refl
+-- the place of a refusal by the check lies in a text that is not too long
+place-by : (t : List ℕ) (n p m : ℕ) (x : Bool) (y z : Option ℕ) → ltb 65536 (length t) ≡ x → illFormed t ≡ y → unrecognized (cuts t) 0 ≡ z
+    → checked t ≡ refused n p m → p ≤ 65536
+unfolding checked limit verdict found
+place-by t n p m true y z h f g e = let q : 0 ≡ p = cc (rw h at e) in omega arith
+place-by t n p m false (some q) z h f g e =
+    let d : _≡_ {A = Outcome (List ℕ)} (refused 21 q 0) (refused n p m) = rw (h, f) at e in
+    let s : q ≡ p = cc in
+    omega (arith, ill-small t q (ap found f), ltb-false 65536 (length t) h)
+place-by t n p m false none (some q) h f g e =
+    let d : _≡_ {A = Outcome (List ℕ)} (refused 22 q 0) (refused n p m) = rw (h, f, g) at e in
+    let s : q ≡ p = cc in
+    omega (arith, unknown-small t 0 q (ap found g), ltb-false 65536 (length t) h)
+place-by t n p m false none none h f g e = let z : _≡_ {A = ℕ} 0 1 = cc (rw (h, f, g) at e) in absurd (omega arith)
 
-pub put-short : (k : ℕ) (a : List ℕ) (ns : List ℕ) → length a < k → a ≡ atFront k ns a
-unfolding atFront
-put-short k a ns h = rw (lt-ltb (length a) k h) refl
+module _ (t : List ℕ) (a : Checked) (e : refusal a ≡ checked t) where
+  pub check-answer : (b : Checked) (l l′ ns : List ℕ) → a ≡ b → numbers (refusal b) ≡ ns → l′ ≡ laid ns l → l′ ≡ laid (numbers (checked t)) l
+  check-answer b l l′ ns h n k = laid-same l l′ ns (ap refusal (sym h) ∙ e) n k
 
-pub put-three : (a : List ℕ) (x y z : ℕ) → 3 ≤ length a → set (set (set a 0 x) 1 y) 2 z ≡ atFront 3 (x ∷ y ∷ z ∷ []) a
-unfolding atFront
-put-three a x y z h = rw (le-ltb (length a) 3 h) (stores a x y z h)
+  pub place-small : (b : Checked) (n p m : ℕ) → a ≡ b → refusal b ≡ refused n p m → p ≤ 65536
+  place-small b n p m h f = place-by t n p m _ _ _ refl refl refl (sym e ∙ ap refusal h ∙ f)
 
-pub put-four : (a : List ℕ) (w x y z : ℕ) → 4 ≤ length a → set (set (set (set a 0 w) 1 x) 2 y) 3 z ≡ atFront 4 (w ∷ x ∷ y ∷ z ∷ []) a
-unfolding atFront
-put-four a w x y z h = rw (le-ltb (length a) 4 h) (stores-four a w x y z h)
+pub read-answer : (a b : Answer) (t u : List ℕ) (r : Reading) → R.told a t u ≡ r → (l l′ ns : List ℕ) → a ≡ b → numbers (R.said b) ≡ ns → l′ ≡ laid ns l
+    → (t ≡ r .nodes) × (u ≡ r .comments) × (l′ ≡ laid (numbers (r .says)) l)
+read-answer a b t u r e l l′ ns h n k =
+    (ap (λ (x : Reading). x .nodes) e, ap (λ (x : Reading). x .comments) e, laid-same l l′ ns (ap R.said (sym h) ∙ ap (λ (x : Reading). x .says) e) n k)
 
-module _ (a : Answer) (t u : List ℕ) (r : Reading) (e : told a t u ≡ r) where
-  pub read-nodes : t ≡ r .nodes
-  read-nodes = ap (λ (x : Reading). x .nodes) e
-
-  pub read-comments : u ≡ r .comments
-  read-comments = ap (λ (x : Reading). x .comments) e
-
-  pub read-answer : (b : Answer) (l l′ ns : List ℕ) → a ≡ b → numbers b ≡ ns → l′ ≡ atFront 3 ns l → l′ ≡ atFront 3 (numbers (r .says)) l
-  read-answer b l l′ ns h n k = k ∙ ap (λ (x : List ℕ). atFront 3 x l) (sym n ∙ ap numbers (sym h ∙ ap (λ (q : Reading). q .says) e))
-
-module _ (a : Printed) (t u o : List ℕ) (r : Printing) (e : print-told a t u o ≡ r) where
-  pub print-nodes : t ≡ r .nodes
-  print-nodes = ap (λ (x : Printing). x .nodes) e
-
-  pub print-comments : u ≡ r .comments
-  print-comments = ap (λ (x : Printing). x .comments) e
-
-  pub print-output : o ≡ r .output
-  print-output = ap (λ (x : Printing). x .output) e
-
-  pub print-answer : (b : Printed) (l l′ ns : List ℕ) → a ≡ b → four b ≡ ns → l′ ≡ atFront 4 ns l → l′ ≡ atFront 4 (four (r .says)) l
-  print-answer b l l′ ns h n k = k ∙ ap (λ (x : List ℕ). atFront 4 x l) (sym n ∙ ap four (sym h ∙ ap (λ (q : Printing). q .says) e))
+pub print-answer : (a b : Printed) (t u o : List ℕ) (r : Printing) → W.told a t u o ≡ r → (l l′ ns : List ℕ) → a ≡ b → numbers (W.said b) ≡ ns → l′ ≡ laid ns l
+    → (t ≡ r .nodes) × (u ≡ r .comments) × (o ≡ r .output) × (l′ ≡ laid (numbers (r .says)) l)
+print-answer a b t u o r e l l′ ns h n k = (
+  ap (λ (x : Printing). x .nodes) e,
+  ap (λ (x : Printing). x .comments) e,
+  ap (λ (x : Printing). x .output) e,
+  laid-same l l′ ns (ap W.said (sym h) ∙ ap (λ (x : Printing). x .says) e) n k,
+)

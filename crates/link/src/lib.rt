@@ -1,42 +1,71 @@
 // What C and Rust programs link: numbers and lent slices only.
 ghost use mathlib.Core.Path.{_≡_};
-ghost use mathlib.Core.List.{[], _∷_};
-ghost use lib.ListN.{getD};
-ghost use Rattle.lexer.specs.Check.{checked, refusal};
-ghost use Rattle.parser.specs.Read.{numbers, reading};
+ghost use Rattle.lexer.specs.Outcome.{numbers};
+ghost use Rattle.lexer.specs.Check.{checked};
+ghost use Rattle.parser.specs.Read.{reading};
 ghost use Rattle.writer.specs.Write.{printing};
 ghost use Rattle.place.specs.Place.{placeOf};
-ghost use Rattle.link.specs.Told.{atFront, four, three};
+ghost use Rattle.link.specs.Told.{laid, three};
 use lexer::Checked;
 use parser::Answer;
 use writer::Printed;
 
-// The number of a text's refusal by the checks before the grammar (20, 21, 22), 0 where there is none.
+// Numbers at the front of a slice, as many as it holds, and 0 behind them.
+fn fill_u32(slice: &mut [u32], numbers: &[u32])
+    ensures { λ _. ⌜ now (slice .exit) ≡ laid (now (numbers .entry)) (now (slice .entry)) ⌝ }
+{
+    let mut i = 0;
+    while i < slice.len() {
+        let mut number = 0; // behind the numbers
+        if i < numbers.len() {
+            number = numbers[i];
+        }
+        slice[i] = number;
+        i += 1;
+    }
+}
+
+// The same in 64 bits.
+fn fill_u64(slice: &mut [u64], numbers: &[u64])
+    ensures { λ _. ⌜ now (slice .exit) ≡ laid (now (numbers .entry)) (now (slice .entry)) ⌝ }
+{
+    let mut i = 0;
+    while i < slice.len() {
+        let mut number = 0;
+        if i < numbers.len() {
+            number = numbers[i];
+        }
+        slice[i] = number;
+        i += 1;
+    }
+}
+
+// The checks of a text before the grammar (20, 21, 22). The answer's numbers: 0, or a refusal's number, place and length.
 #[no_mangle]
-pub extern "C" fn hirvelan_check(text: &[u8]) -> u32
-    ensures { λ r. ⌜ r ≡ getD (refusal (checked (now (text .entry)))) 0 0 ⌝ }
+pub extern "C" fn hirvelan_check(text: &[u8], answer: &mut [u32])
+    ensures { λ _. ⌜ now (answer .exit) ≡ laid (numbers (checked (now (text .entry)))) (now (answer .entry)) ⌝ }
 {
     match lexer::check(text) {
-        Checked::Fine => 0,
-        Checked::TooLong => 20,
-        Checked::IllFormed(_) => 21,
-        Checked::Unrecognized(_) => 22,
+        Checked::Fine => {
+            let told = [0];
+            fill_u32(answer, &told);
+        }
+        Checked::TooLong => {
+            let told = [20, 0, 0];
+            fill_u32(answer, &told);
+        }
+        Checked::IllFormed(at) => {
+            let told = [21, at as u32, 0];
+            fill_u32(answer, &told);
+        }
+        Checked::Unrecognized(at) => {
+            let told = [22, at as u32, 0];
+            fill_u32(answer, &told);
+        }
     }
 }
 
-// Puts three numbers at the front of a slice that holds them.
-fn put_numbers(answer: &mut [u32], a: u32, b: u32, c: u32)
-    ensures { λ _. ⌜ now (answer .exit) ≡ atFront 3 (a ∷ b ∷ c ∷ []) (now (answer .entry)) ⌝ }
-{
-    if answer.len() < 3 {
-        return;
-    }
-    answer[0] = a;
-    answer[1] = b;
-    answer[2] = c;
-}
-
-// Reads a text into both tables. The answer's three numbers: 0 and the counts of nodes and of comments, or a refusal's number, place and length.
+// Reads a text into both tables. The answer's numbers: 0 and the counts of nodes and of comments, or a refusal's number, place and length.
 #[no_mangle]
 pub extern "C" fn hirvelan_read(
     text: &[u8],
@@ -46,48 +75,38 @@ pub extern "C" fn hirvelan_read(
 )
     ensures { λ _. ⌜ (now (nodes .exit) ≡ reading (now (text .entry)) (now (nodes .entry)) (now (comments .entry)) .nodes)
         × (now (comments .exit) ≡ reading (now (text .entry)) (now (nodes .entry)) (now (comments .entry)) .comments)
-        × (now (answer .exit) ≡ atFront 3 (numbers (reading (now (text .entry)) (now (nodes .entry)) (now (comments .entry)) .says)) (now (answer .entry))) ⌝ }
+        × (now (answer .exit) ≡ laid (numbers (reading (now (text .entry)) (now (nodes .entry)) (now (comments .entry)) .says)) (now (answer .entry))) ⌝ }
 {
     match reader::read(text, nodes, comments) {
         Answer::Accepted {
             nodes: n,
             comments: c,
         } => {
-            put_numbers(answer, 0, n, c);
+            let told = [0, n, c];
+            fill_u32(answer, &told);
         }
         Answer::Refused {
             number,
             place,
             length,
         } => {
-            put_numbers(answer, number, place, length);
+            let told = [number, place, length];
+            fill_u32(answer, &told);
         }
     }
 }
 
-// Where an offset of a text stands, any offset of any text. The place's three numbers: line and column, from 1, and the offset, held to the text's end and to 65,536.
+// Where an offset of a text stands, any offset of any text. The place's numbers: line and column, from 1, and the offset, held to the text's end and to 65,536.
 #[no_mangle]
 pub extern "C" fn hirvelan_place(text: &[u8], offset: u32, place: &mut [u32])
-    ensures { λ _. ⌜ now (place .exit) ≡ atFront 3 (three (placeOf (now (text .entry)) offset)) (now (place .entry)) ⌝ }
+    ensures { λ _. ⌜ now (place .exit) ≡ laid (three (placeOf (now (text .entry)) offset)) (now (place .entry)) ⌝ }
 {
     let found = place::find(text, offset);
-    put_numbers(place, found.line, found.column, found.index);
+    let told = [found.line, found.column, found.index];
+    fill_u32(place, &told);
 }
 
-// Puts four numbers at the front of a slice that holds them.
-fn put_four(answer: &mut [u64], a: u64, b: u64, c: u64, d: u64)
-    ensures { λ _. ⌜ now (answer .exit) ≡ atFront 4 (a ∷ b ∷ c ∷ d ∷ []) (now (answer .entry)) ⌝ }
-{
-    if answer.len() < 4 {
-        return;
-    }
-    answer[0] = a;
-    answer[1] = b;
-    answer[2] = c;
-    answer[3] = d;
-}
-
-// Prints a text at an indent. The answer's four numbers: 0, the counts of nodes and of comments and the bytes written, or a refusal's number, place and length, and 0.
+// Prints a text at an indent. The answer's numbers: 0, the counts of nodes and of comments and the bytes written, or a refusal's number, place and length.
 #[no_mangle]
 pub extern "C" fn hirvelan_print(
     text: &[u8],
@@ -100,7 +119,7 @@ pub extern "C" fn hirvelan_print(
     ensures { λ _. ⌜ (now (nodes .exit) ≡ printing (now (text .entry)) indent (now (nodes .entry)) (now (comments .entry)) (now (out .entry)) .nodes)
         × (now (comments .exit) ≡ printing (now (text .entry)) indent (now (nodes .entry)) (now (comments .entry)) (now (out .entry)) .comments)
         × (now (out .exit) ≡ printing (now (text .entry)) indent (now (nodes .entry)) (now (comments .entry)) (now (out .entry)) .output)
-        × (now (answer .exit) ≡ atFront 4 (four (printing (now (text .entry)) indent (now (nodes .entry)) (now (comments .entry)) (now (out .entry)) .says)) (now (answer .entry))) ⌝ }
+        × (now (answer .exit) ≡ laid (numbers (printing (now (text .entry)) indent (now (nodes .entry)) (now (comments .entry)) (now (out .entry)) .says)) (now (answer .entry))) ⌝ }
 {
     match printer::print(text, indent, nodes, comments, out) {
         Printed::Accepted {
@@ -108,14 +127,16 @@ pub extern "C" fn hirvelan_print(
             comments: c,
             bytes,
         } => {
-            put_four(answer, 0, n as u64, c as u64, bytes as u64);
+            let told = [0, n as u64, c as u64, bytes as u64];
+            fill_u64(answer, &told);
         }
         Printed::Refused {
             number,
             place,
             length,
         } => {
-            put_four(answer, number as u64, place as u64, length as u64, 0);
+            let told = [number as u64, place as u64, length as u64];
+            fill_u64(answer, &told);
         }
     }
 }

@@ -8,3 +8,4 @@ pub mod Lexemes
 pub mod Paid
 pub mod Idl
 pub mod KindLaws
+pub mod Said

@@ -17,8 +17,7 @@ use Rattle.token.specs.declared.Token.{Token}
 use Rattle.token.specs.declared.Token.the-variants as T
 use Rattle.token.specs.declared.Scan.{Scan}
 use Rattle.token.specs.declared.Scan.the-variants.{Miss, Hit}
-use Rattle.lexer.specs.declared.Checked.{Checked}
-use Rattle.lexer.specs.declared.Checked.the-variants as C
+use Rattle.lexer.specs.Outcome.{Outcome, accepted, refused as rejected}
 use Rattle.lexer.specs.declared.location.LOC.{LOC}
 use Rattle.lexer.specs.declared.location.Lexer.{Lexer}
 use Rattle.lexer.specs.Cuts.{cutAt, cutsFrom, cuts}
@@ -176,7 +175,7 @@ use Rattle.parser.specs.Definitions.{
   documentEnd,
   parseDocument,
 }
-use Rattle.parser.specs.Read.{read, refused as rejected, parsed, answered, outcomeBy, outcome}
+use Rattle.parser.specs.Read.{parsed, answered, outcomeBy, outcome}
 use Rattle.ast.specs.Records.{size, sizes, forest, nodeRows, notes}
 use Rattle.ast.proofs.Counts.{noteCount, noteCounts, node-rows-size, notes-count}
 
@@ -909,28 +908,26 @@ pub record Bounded (t : List ℕ) (ds : List Definition) : Type 0 where
   pub comments : length (notes ds) ≤ length t
   pub bytes : length t ≤ 65536
 
-pub read-bounds : (t : List ℕ) (ds : List Definition) → outcome t ≡ read ds → Bounded t ds
+pub read-bounds : (t : List ℕ) (ds : List Definition) → outcome t ≡ accepted ds → Bounded t ds
 unfolding outcome outcomeBy answered
 read-bounds t ds o = go (checked t) refl o
   where
-    never : {e p n : ℕ} → rejected e p n ≡ read ds → Bounded t ds
+    never : {e p n : ℕ} → rejected e p n ≡ accepted ds → Bounded t ds
     never a = let z : _≡_ {A = ℕ} 0 1 = cc in absurd (omega arith)
 
-    by-parsed : (r : Res (List Definition)) → parsed t ≡ r → answered r t ≡ read ds → length t ≤ 65536 → Bounded t ds
+    by-parsed : (r : Res (List Definition)) → parsed t ≡ r → answered r t ≡ accepted ds → length t ≤ 65536 → Bounded t ds
     by-parsed (ok es s) e a h =
         let x : es ≡ ds = cc in
         let e : parsed t ≡ ok ds s = cc in
         record { nodes = omega (arith, nodes-bound t ds s e, tokens-bound t); comments = omega (arith, notes-bound t ds s e, tokens-bound t); bytes = h }
     by-parsed (no n l) e a h = never a
 
-    go : (c : Checked) → checked t ≡ c → outcomeBy c t ≡ read ds → Bounded t ds
-    go C.Fine e a = by-parsed (parsed t) refl a (fine-means t e .0)
-    go C.TooLong e a = never a
-    go (C.IllFormed p) e a = never a
-    go (C.Unrecognized p) e a = never a
+    go : (c : Outcome (List ℕ)) → checked t ≡ c → outcomeBy c t ≡ accepted ds → Bounded t ds
+    go (accepted ns) e a = by-parsed (parsed t) refl a (fine-means t e .0)
+    go (rejected n p l) e a = never a
 
-pub nodes-most : (t : List ℕ) (ds : List Definition) → outcome t ≡ read ds → length (nodeRows ds) ≤ 131072
+pub nodes-most : (t : List ℕ) (ds : List Definition) → outcome t ≡ accepted ds → length (nodeRows ds) ≤ 131072
 nodes-most t ds e = omega (arith, read-bounds t ds e)
 
-pub notes-most : (t : List ℕ) (ds : List Definition) → outcome t ≡ read ds → length (notes ds) ≤ 65536
+pub notes-most : (t : List ℕ) (ds : List Definition) → outcome t ≡ accepted ds → length (notes ds) ≤ 65536
 notes-most t ds e = omega (arith, read-bounds t ds e)

@@ -1,19 +1,21 @@
--- Document 01's starred edges, its listing and its traps as one table. Assumes nothing: these are definitions.
+-- Document 01's starred edges, its listing and its traps as one table.
 use Prim.Native.Nat.{ℕ}
 use Prim.Native.String.{String}
 use mathlib.Core.Path.{_≡_}
 use mathlib.Core.List.{List, [], _∷_}
 use Rattle.token.specs.Regex.{bytes}
+use Rattle.lexer.specs.Outcome.{Outcome, accepted, refused}
+use Rattle.ast.specs.Ast.{Definition}
 use Rattle.ast.specs.Records.{nodeRows, notes}
-use Rattle.parser.specs.Read.{Outcome, read, refused, outcome}
+use Rattle.parser.specs.Read.{outcome}
 
 -- a text, and what a reading with room enough answers: number, place and length; or the records of nodes and of comments
 pub data Edge : Type 0 where
   refuses : String → ℕ → ℕ → ℕ → Edge
   accepts : String → List (List ℕ) → List (List ℕ) → Edge
 
-abbrev pub Meets : Outcome → List (List ℕ) → List (List ℕ) → Type 0
-Meets (read ds) ns cs = (nodeRows ds ≡ ns) × (notes ds ≡ cs)
+abbrev pub Meets : Outcome (List Definition) → List (List ℕ) → List (List ℕ) → Type 0
+Meets (accepted ds) ns cs = (nodeRows ds ≡ ns) × (notes ds ≡ cs)
 Meets (refused e p n) ns cs = ⊥
 
 abbrev pub Holds : Edge → Type 0

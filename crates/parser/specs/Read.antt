@@ -1,12 +1,11 @@
--- Reading as a whole: every row of document 01's table up to 25, for any text and any two tables. Assumes nothing: these are definitions.
+-- Reading as a whole: every row of document 01's table up to 25, for any text and any two tables.
 use mathlib.Core.Bool.{cond}
 use mathlib.Core.List.{List, [], _∷_}
 use Prim.Native.Nat.{ℕ, _-_}
 use lib.Dec.{eqb, ltb}
 use lib.ListN.{length}
-use Rattle.lexer.specs.declared.Checked.{Checked}
-use Rattle.lexer.specs.declared.Checked.the-variants as C
 use Rattle.lexer.specs.declared.location.LOC.{LOC}
+use Rattle.lexer.specs.Outcome.{Outcome, accepted, refused}
 use Rattle.lexer.specs.Location.{between, opening}
 use Rattle.lexer.specs.Tokens.{tokens}
 use Rattle.lexer.specs.Check.{checked}
@@ -17,11 +16,6 @@ use Rattle.parser.specs.Definitions.{parseDocument}
 use Rattle.parser.specs.declared.Answer.{Answer}
 use Rattle.parser.specs.declared.Answer.the-variants.{Accepted, Refused}
 
--- a text's definitions, or its refusal's number, place and length, before the tables are looked at
-pub data Outcome : Type 0 where
-  read : List Definition → Outcome
-  refused : ℕ → ℕ → ℕ → Outcome
-
 -- the grammar over the tokens of a text
 unfoldable pub parsed : List ℕ → Res (List Definition)
 parsed t = parseDocument (pos (between opening opening) [] (tokens t opening))
@@ -30,55 +24,55 @@ parsed t = parseDocument (pos (between opening opening) [] (tokens t opening))
 unfoldable pub endRule : ℕ → LOC → List ℕ → ℕ
 endRule e l t = cond (eqb e 3) (cond (eqb (l .end .index) (length t)) 3 1) e
 
-unfoldable pub answered : Res (List Definition) → List ℕ → Outcome
-answered (ok ds s) t = read ds
+unfoldable pub answered : Res (List Definition) → List ℕ → Outcome (List Definition)
+answered (ok ds s) t = accepted ds
 answered (no e l) t = refused (endRule e l t) (l .start .index) (l .end .index - l .start .index)
 
 -- 20, 21, 22, then the grammar
-unfoldable pub outcomeBy : Checked → List ℕ → Outcome
-outcomeBy C.Fine t = answered (parsed t) t
-outcomeBy C.TooLong t = refused 20 0 0
-outcomeBy (C.IllFormed p) t = refused 21 p 0
-outcomeBy (C.Unrecognized p) t = refused 22 p 0
+unfoldable pub outcomeBy : Outcome (List ℕ) → List ℕ → Outcome (List Definition)
+outcomeBy (accepted ns) t = answered (parsed t) t
+outcomeBy (refused e p n) t = refused e p n
 
-unfoldable pub outcome : List ℕ → Outcome
+-- a text's definitions, or its refusal, before the tables are looked at
+unfoldable pub outcome : List ℕ → Outcome (List Definition)
 outcome t = outcomeBy (checked t) t
 
--- then 24 and 25
-unfoldable pub fitted : List Definition → List ℕ → List ℕ → Answer
+-- then 24 and 25; the counts of nodes and of comments
+unfoldable pub fitted : List Definition → List ℕ → List ℕ → Outcome (List ℕ)
 fitted ds nodes comments =
-    cond (ltb (room nodes) (length (nodeRows ds))) (Refused 24 0 0)
-    (cond (ltb (room comments) (length (notes ds))) (Refused 25 0 0) (Accepted (length (nodeRows ds)) (length (notes ds))))
+    cond (ltb (room nodes) (length (nodeRows ds))) (refused 24 0 0)
+    (cond (ltb (room comments) (length (notes ds))) (refused 25 0 0) (accepted (length (nodeRows ds) ∷ length (notes ds) ∷ [])))
 
-unfoldable pub answer : Outcome → List ℕ → List ℕ → Answer
-answer (read ds) nodes comments = fitted ds nodes comments
-answer (refused e p n) nodes comments = Refused e p n
+unfoldable pub answer : Outcome (List Definition) → List ℕ → List ℕ → Outcome (List ℕ)
+answer (accepted ds) nodes comments = fitted ds nodes comments
+answer (refused e p n) nodes comments = refused e p n
 
--- document 01's numbers of an answer: 0 and the counts, or the refusal's number, place and length
-unfoldable pub numbers : Answer → List ℕ
-numbers (Accepted n c) = 0 ∷ n ∷ c ∷ []
-numbers (Refused e p n) = e ∷ p ∷ n ∷ []
+-- a table after any call: filled where it is accepted, all 0 where it is refused
+unfoldable pub left : Outcome (List ℕ) → List (List ℕ) → List ℕ → List ℕ
+left (accepted ns) rs table = filled rs table
+left (refused e p n) rs table = cleared table
 
--- a table afterwards: filled where the reading is accepted, all 0 where it is refused
-unfoldable pub left : Answer → List (List ℕ) → List ℕ → List ℕ
-left (Accepted n c) rs table = filled rs table
-left (Refused e p n) rs table = cleared table
-
-unfoldable pub rowsBy : (List Definition → List (List ℕ)) → Outcome → List (List ℕ)
-rowsBy f (read ds) = f ds
+unfoldable pub rowsBy : (List Definition → List (List ℕ)) → Outcome (List Definition) → List (List ℕ)
+rowsBy f (accepted ds) = f ds
 rowsBy f (refused e p n) = []
+
+-- what each case of the code's answer says
+unfoldable pub said : Answer → Outcome (List ℕ)
+said (Accepted n c) = accepted (n ∷ c ∷ [])
+said (Refused e p n) = refused e p n
 
 -- what a reading answers, and both tables afterwards
 pub record Reading : Type 0 where
-  pub says : Answer
+  pub says : Outcome (List ℕ)
   pub nodes : List ℕ
   pub comments : List ℕ
 
+-- the code's answer and both tables, as a reading
 abbrev pub told : Answer → List ℕ → List ℕ → Reading
-told a ns cs = record { says = a; nodes = ns; comments = cs }
+told a ns cs = record { says = said a; nodes = ns; comments = cs }
 
 unfoldable pub reading : List ℕ → List ℕ → List ℕ → Reading
 reading t ns cs =
     let o = outcome t in
     let a = answer o ns cs in
-    told a (left a (rowsBy nodeRows o) ns) (left a (rowsBy notes o) cs)
+    record { says = a; nodes = left a (rowsBy nodeRows o) ns; comments = left a (rowsBy notes o) cs }

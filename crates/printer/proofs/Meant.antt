@@ -6,7 +6,6 @@
 use mathlib.Core.Path.{_≡_, refl, sym, ap, _∙_}
 use mathlib.Core.Logic.{inl, ⊎-elim}
 use mathlib.Core.Bool.{Bool, true, false, cond}
-use mathlib.Core.Option.{Option, some, none}
 use mathlib.Core.List.{List, [], _∷_, _++_, append-nil, append-assoc}
 use Prim.Native.Nat.{ℕ, suc, _+_, _*_, _-_, _/_, _≤_, _<_}
 use native.Mathlib.Omega.{arith}
@@ -14,26 +13,24 @@ use lib.Dec.{ltb}
 use lib.ListN.{length, drop, replicate, length-append, length-drop, length-replicate}
 use lib.Seq.{take-append-seam}
 use borrow.Author.Tests.{ltb-false, lt-ltb, le-ltb}
-use Rattle.lexer.specs.declared.Checked.{Checked}
-use Rattle.lexer.specs.declared.Checked.the-variants as C
+use Rattle.lexer.specs.Outcome.{Outcome, accepted, refused}
 use Rattle.lexer.specs.Location.{between, opening as opened}
 use Rattle.lexer.specs.Tokens.{Lexeme}
-use Rattle.lexer.specs.Check.{checked, limit, verdict}
+use Rattle.lexer.specs.Check.{checked, limit}
 use Rattle.ast.specs.Lists.{All, anil, acons}
 use Rattle.ast.specs.Ast.{Definition}
 use Rattle.ast.specs.Tree.{Tree, node, Forest, bare, grown, each, definitionTree}
 use Rattle.ast.specs.Records.{width, noParent, row, size, rows, rowsOf, commentRow, owned, commentRows, commentRowsOf, forest, nodeRows, notes, room, concat, filled, cleared}
 use Rattle.ast.proofs.Counts.{node-rows-wide, notes-wide, concat-width, filled-length, cleared-same}
 use Rattle.parser.specs.Steps.{Res, ok, no}
-use Rattle.parser.specs.declared.Answer.the-variants as A
 use Rattle.parser.specs.Read as R
-use Rattle.parser.specs.Read.{Outcome, read, refused, parsed, answered, outcomeBy, outcome, rowsBy, reading}
+use Rattle.parser.specs.Read.{parsed, answered, outcomeBy, outcome, left, rowsBy, reading}
 use Rattle.steps.specs.Into.{wiped}
 use Rattle.parser.proofs.Lexemes.{Stands, tokens-stand, HasRule, tokens-ruled, EachDefinition, document-each}
 use Rattle.parser.proofs.Paid.{nodes-most, notes-most}
 use Rattle.writer.specs.Print.{bytesOf, pieces, printed}
 use Rattle.writer.specs.declared.Printed.the-variants.{Accepted, Refused}
-use Rattle.writer.specs.Write.{widest, outcomeAt, fitted, answer, left, written, printOf, Printing, told, printing}
+use Rattle.writer.specs.Write.{widest, outcomeAt, fittedOut, answer, written, printOf, Printing, said, told, printing}
 use Rattle.cursor.specs.Onto.{Reached}
 use Rattle.printer.specs.Onto.{opening, refusing, fits, ended, writing, byAnswer, byReading, all}
 use Rattle.write_fields.proofs.Ahead.{Rows, under, unders, ownedBefore, noted, noteds, Ahead, Fits, Over, Got, got, Job, At}
@@ -128,7 +125,7 @@ good-tokens : (text : List ℕ) {ts : List Lexeme} → All (Stands text) ts → 
 good-tokens text anil anil = anil
 good-tokens text (acons p ps) (acons q qs) = acons (record { stands = p; ruled = q }) (good-tokens text ps qs)
 
-good-definitions : (text : List ℕ) (ds : List Definition) (r : Res (List Definition)) → parsed text ≡ r → answered r text ≡ read ds → All (EachDefinition (Good text)) ds
+good-definitions : (text : List ℕ) (ds : List Definition) (r : Res (List Definition)) → parsed text ≡ r → answered r text ≡ accepted ds → All (EachDefinition (Good text)) ds
 unfolding parsed answered
 good-definitions text ds (ok es s) e a =
     let x : es ≡ ds = cc in
@@ -138,7 +135,7 @@ good-definitions text ds (no n l) e a = let z : _≡_ {A = ℕ} 0 1 = cc in absu
 
 -- ---- what was read is written
 
-module _ (text : List ℕ) (indent : ℕ) (t u o : List ℕ) (ds : List Definition) (found : outcome text ≡ read ds) (good : All (EachDefinition (Good text)) ds)
+module _ (text : List ℕ) (indent : ℕ) (t u o : List ℕ) (ds : List Definition) (found : outcome text ≡ accepted ds) (good : All (EachDefinition (Good text)) ds)
     (t-room : ltb (room t) (length (nodeRows ds)) ≡ false) (u-room : ltb (room u) (length (notes ds)) ≡ false) where
   abbrev job : Job
   job =
@@ -202,30 +199,28 @@ module _ (text : List ℕ) (indent : ℕ) (t u o : List ℕ) (ds : List Definiti
 
 -- ---- the whole
 
-good-outcome : (text : List ℕ) (ds : List Definition) → outcome text ≡ read ds → All (EachDefinition (Good text)) ds
+good-outcome : (text : List ℕ) (ds : List Definition) → outcome text ≡ accepted ds → All (EachDefinition (Good text)) ds
 unfolding outcome outcomeBy
 good-outcome text ds e = go (checked text) e
   where
-    never : {e p n : ℕ} → refused e p n ≡ read ds → All (EachDefinition (Good text)) ds
+    never : {e p n : ℕ} → refused e p n ≡ accepted ds → All (EachDefinition (Good text)) ds
     never a = let z : _≡_ {A = ℕ} 0 1 = cc in absurd (omega arith)
 
-    go : (c : Checked) → outcomeBy c text ≡ read ds → All (EachDefinition (Good text)) ds
-    go C.Fine a = good-definitions text ds (parsed text) refl a
-    go C.TooLong a = never a
-    go (C.IllFormed p) a = never a
-    go (C.Unrecognized p) a = never a
+    go : (c : Outcome (List ℕ)) → outcomeBy c text ≡ accepted ds → All (EachDefinition (Good text)) ds
+    go (accepted ns) a = good-definitions text ds (parsed text) refl a
+    go (refused e p n) a = never a
 
 module _ (text : List ℕ) (indent : ℕ) (t u o : List ℕ) where
   -- what a printing gives for an outcome of the reading
-  abbrev given : Outcome → Printing
+  abbrev given : Outcome (List Definition) → Printing
   given x =
       let a = answer indent x t u o in
-      told a (left a (rowsBy nodeRows x) t) (left a (rowsBy notes x) u) (written a (printOf indent x) o)
+      record { says = a; nodes = left a (rowsBy nodeRows x) t; comments = left a (rowsBy notes x) u; output = written a (printOf indent x) o }
 
   by-length : (b : Bool) (n c : ℕ) (rs ss : Rows) (w : List ℕ) →
       cond b (told (Refused 27 0 0) (cleared t) (cleared u) (cleared o)) (told (Accepted n c (length w)) (filled rs t) (filled ss u) (w ++ replicate (length o - length w) 0))
-      ≡ (let a = cond b (Refused 27 0 0) (Accepted n c (length w)) in told a (left a rs t) (left a ss u) (written a w o))
-  unfolding left written
+      ≡ (let a = cond b (refused 27 0 0) (accepted (n ∷ c ∷ length w ∷ [])) in record { says = a; nodes = left a rs t; comments = left a ss u; output = written a w o })
+  unfolding left written said
   by-length true n c rs ss w = refl
   by-length false n c rs ss w = refl
 
@@ -233,13 +228,13 @@ module _ (text : List ℕ) (indent : ℕ) (t u o : List ℕ) where
   unfolding refusing
   refused-given e p n = rw (cleared-twice t, cleared-twice u)
 
-  read-given : (ds : List Definition) → outcome text ≡ read ds → All (EachDefinition (Good text)) ds →
-      let a = R.fitted ds t u in byAnswer a text indent (R.left a (nodeRows ds) t) (R.left a (notes ds) u) o ≡ given (read ds)
-  unfolding R.fitted R.left byAnswer answer fitted left written rowsBy printOf
+  read-given : (ds : List Definition) → outcome text ≡ accepted ds → All (EachDefinition (Good text)) ds →
+      let a = R.fitted ds t u in byAnswer a text indent (left a (nodeRows ds) t) (left a (notes ds) u) o ≡ given (accepted ds)
+  unfolding R.fitted byAnswer answer fittedOut left written rowsBy printOf said
   read-given ds found good = go (ltb (room t) (length (nodeRows ds))) refl (ltb (room u) (length (notes ds))) refl
     where
       go : (a : Bool) → ltb (room t) (length (nodeRows ds)) ≡ a → (b : Bool) → ltb (room u) (length (notes ds)) ≡ b →
-          let a = R.fitted ds t u in byAnswer a text indent (R.left a (nodeRows ds) t) (R.left a (notes ds) u) o ≡ given (read ds)
+          let a = R.fitted ds t u in byAnswer a text indent (left a (nodeRows ds) t) (left a (notes ds) u) o ≡ given (accepted ds)
       go true h b k = rw h (refused-given 24 0 0)
       go false h true k = rw (h, k) (refused-given 25 0 0)
       go false h false k =
@@ -247,45 +242,16 @@ module _ (text : List ℕ) (indent : ℕ) (t u o : List ℕ) where
           (written-means text indent t u o ds found good h k
           ∙ by-length (ltb (length o) (length (printed indent ds))) (length (nodeRows ds)) (length (notes ds)) (nodeRows ds) (notes ds) (printed indent ds))
 
-  outcome-given : (x : Outcome) → outcome text ≡ x → byReading (reading text t u) text indent o ≡ given x
-  unfolding reading byReading R.answer R.left byAnswer rowsBy answer left written
-  outcome-given (read ds) e = rw e (read-given ds e (good-outcome text ds e))
+  outcome-given : (x : Outcome (List Definition)) → outcome text ≡ x → byReading (reading text t u) text indent o ≡ given x
+  unfolding reading byReading R.answer byAnswer rowsBy answer left written said
+  outcome-given (accepted ds) e = rw e (read-given ds e (good-outcome text ds e))
   outcome-given (refused n p l) e = rw e (refused-given n p l)
 
-  -- 26 is not told of a text that is too long
-  never : (a b : Option ℕ) → verdict a b ≡ C.TooLong → ⊥
-  unfolding verdict
-  never (some p) b e = let z : _≡_ {A = ℕ} 0 1 = cc in omega arith
-  never none (some p) e = let z : _≡_ {A = ℕ} 0 1 = cc in omega arith
-  never none none e = let z : _≡_ {A = ℕ} 0 1 = cc in omega arith
-
-  wide-given : (x : Checked) → (x ≡ C.TooLong → ⊥) → ltb 8 indent ≡ true → refusing 26 0 0 t u o ≡ given (outcomeAt indent x text)
-  unfolding outcomeAt widest answer left written refusing
-  wide-given C.TooLong n h = absurd (n refl)
-  wide-given C.Fine n h = rw h
-  wide-given (C.IllFormed p) n h = rw h
-  wide-given (C.Unrecognized p) n h = rw h
-
-  narrow-given : (x : Checked) → ltb 8 indent ≡ false → outcomeAt indent x text ≡ outcomeBy x text
-  unfolding outcomeAt widest outcomeBy
-  narrow-given C.TooLong h = refl
-  narrow-given C.Fine h = rw h
-  narrow-given (C.IllFormed p) h = rw h
-  narrow-given (C.Unrecognized p) h = rw h
-
-  all-narrow : ltb 65536 (length text) ≡ false → ltb 8 indent ≡ false → all text indent t u o ≡ byReading (reading text t u) text indent o
-  unfolding all
-  all-narrow h k = rw (h, k)
-
-  narrow : ltb 8 indent ≡ false → byReading (reading text t u) text indent o ≡ printing text indent t u o
-  unfolding printing outcome
-  narrow k = outcome-given (outcome text) refl ∙ ap given (sym (narrow-given (checked text) k))
-
   pub print-means : all text indent t u o ≡ printing text indent t u o
-  unfolding all printing checked limit outcomeAt answer left written refusing
+  unfolding all printing limit widest outcomeAt answer left written refusing said
   print-means = go (ltb 65536 (length text)) refl (ltb 8 indent) refl
     where
       go : (a : Bool) → ltb 65536 (length text) ≡ a → (b : Bool) → ltb 8 indent ≡ b → all text indent t u o ≡ printing text indent t u o
-      go true h b k = rw h refl
-      go false h true k = rw (h, k) (wide-given _ (never _ _) k)
-      go false h false k = all-narrow h k ∙ narrow k
+      go true h b k = rw h
+      go false h true k = rw (h, k)
+      go false h false k = rw (h, k) (outcome-given (outcome text) refl)

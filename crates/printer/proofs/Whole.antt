@@ -10,7 +10,7 @@ use borrow.Author.Tests.{lt-ltb, le-ltb}
 use lib.ListN.{length}
 use Rattle.parser.specs.declared.Answer.{Answer}
 use Rattle.parser.specs.declared.Answer.the-variants as A
-use Rattle.parser.specs.Read.{Reading, reading, told as read-told}
+use Rattle.parser.specs.Read.{Reading, reading, said, told as read-told}
 use Rattle.writer.specs.Write.{Printing}
 use Rattle.cursor.specs.declared.Cursor.{Cursor}
 use Rattle.cursor.specs.Onto.{Reached, reached}
@@ -32,14 +32,14 @@ module _ (text : List ℕ) (indent : ℕ) (t u o : List ℕ) where
   all-wide h k = rw (le-ltb _ _ h, lt-ltb _ _ k)
 
   module _ (h : length text ≤ 65536) (k : indent ≤ 8) (a : Answer) (t₁ u₁ : List ℕ) (e : read-told a t₁ u₁ ≡ reading text t u) where
-    all-read : byAnswer a text indent t₁ u₁ o ≡ all text indent t u o
+    all-read : byAnswer (said a) text indent t₁ u₁ o ≡ all text indent t u o
     unfolding all byReading
     all-read = ap (λ (r : Reading). byReading r text indent o) e ∙ rw (le-ltb _ _ h, le-ltb _ _ k)
 
     pub all-refused : (n p l : ℕ) → a ≡ A.Refused n p l → refusing n p l t₁ u₁ o ≡ all text indent t u o
-    unfolding byAnswer
-    all-refused n p l f = ap (λ (x : Answer). byAnswer x text indent t₁ u₁ o) (sym f) ∙ all-read
+    unfolding byAnswer said
+    all-refused n p l f = ap (λ (x : Answer). byAnswer (said x) text indent t₁ u₁ o) (sym f) ∙ all-read
 
     pub all-accepted : (n c : ℕ) → a ≡ A.Accepted n c → writing text indent n c t₁ u₁ o ≡ all text indent t u o
-    unfolding byAnswer
-    all-accepted n c f = ap (λ (x : Answer). byAnswer x text indent t₁ u₁ o) (sym f) ∙ all-read
+    unfolding byAnswer said
+    all-accepted n c f = ap (λ (x : Answer). byAnswer (said x) text indent t₁ u₁ o) (sym f) ∙ all-read

@@ -1,13 +1,12 @@
 -- What the printer does, of a whole text. Contracts inside this crate cite it, and proofs/Meant shows that it means writer/specs/Write; nothing outside the crate has to
--- believe it. Assumes nothing: these are definitions.
+-- believe it.
 use mathlib.Core.Bool.{cond}
 use mathlib.Core.List.{List}
 use Prim.Native.Nat.{ℕ}
 use lib.Dec.{ltb}
-use lib.ListN.{length}
+use lib.ListN.{length, getD}
+use Rattle.lexer.specs.Outcome.{Outcome, accepted, refused}
 use Rattle.ast.specs.Records.{cleared}
-use Rattle.parser.specs.declared.Answer.{Answer}
-use Rattle.parser.specs.declared.Answer.the-variants as A
 use Rattle.parser.specs.Read.{Reading, reading}
 use Rattle.steps.specs.Into.{wiped}
 use Rattle.writer.specs.declared.Printed.the-variants.{Accepted, Refused}
@@ -35,9 +34,9 @@ unfoldable pub writing : List ℕ → ℕ → ℕ → ℕ → List ℕ → List 
 writing text indent n c t u o = ended (documentOut text t n u c indent opening o) n c t u
 
 -- by what the reading answered
-unfoldable pub byAnswer : Answer → List ℕ → ℕ → List ℕ → List ℕ → List ℕ → Printing
-byAnswer (A.Accepted n c) text indent t u o = writing text indent n c t u o
-byAnswer (A.Refused e p n) text indent t u o = refusing e p n t u o
+unfoldable pub byAnswer : Outcome (List ℕ) → List ℕ → ℕ → List ℕ → List ℕ → List ℕ → Printing
+byAnswer (accepted ns) text indent t u o = writing text indent (getD ns 0 0) (getD ns 1 0) t u o
+byAnswer (refused e p n) text indent t u o = refusing e p n t u o
 
 unfoldable pub byReading : Reading → List ℕ → ℕ → List ℕ → Printing
 byReading r text indent o = byAnswer (r .says) text indent (r .nodes) (r .comments) o

@@ -13,6 +13,7 @@ use lib.Dec.{eqb, ltb}
 use lib.ListN.{length, take, drop}
 use Rattle.utf8.specs.declared.Found.the-variants.{Nowhere}
 use Rattle.lexer.specs.declared.location.LOC.{LOC}
+use Rattle.lexer.specs.Outcome.{Outcome}
 use Rattle.lexer.specs.Location.{between, opening}
 use Rattle.lexer.specs.Tokens.{Lexeme, tokens}
 use Rattle.lexer.specs.Cuts.{cuts, unrecognized}
@@ -37,11 +38,10 @@ use Rattle.ast.proofs.Counts.{
   notes-wide,
   cleared-same,
 }
-use Rattle.parser.specs.declared.Answer.{Answer}
 use Rattle.steps.specs.declared.state.State.{State}
 use Rattle.parser.specs.Steps.{St, pos, Res, test, fail, many}
 use Rattle.parser.specs.Definitions.{parseDefinition, over, documentEnd, parseDocument}
-use Rattle.parser.specs.Read.{parsed, endRule, answered, outcomeBy, outcome, fitted, answer, left, rowsBy, reading, told}
+use Rattle.parser.specs.Read.{parsed, endRule, answered, outcomeBy, outcome, fitted, answer, left, rowsBy, Reading, reading, said}
 use Rattle.steps.specs.Into.{Out, done, stop, refused, most, closesAt, restAt, wiped}
 use Rattle.reader.specs.Into.{inRest, restIn, overIn, betweenIn, documentIn, beginning, refusing, ended, refusingAt, fits, judged, unscanned, settled, parsing}
 use Rattle.reader.proofs.Whole.{read-unknown}
@@ -189,8 +189,12 @@ module _ (text : List ℕ) (short : length text ≤ 65536) where
         wide = anil;
       }
 
-  told-same : {a b : Answer} {n m c d : List ℕ} → a ≡ b → n ≡ m → c ≡ d → told a n c ≡ told b m d
-  told-same e f g = rw (e, f, g)
+  -- an answer and both tables
+  abbrev given : Outcome (List ℕ) → List ℕ → List ℕ → Reading
+  given a ns cs = record { says = a; nodes = ns; comments = cs }
+
+  given-same : {a b : Outcome (List ℕ)} {n m c d : List ℕ} → a ≡ b → n ≡ m → c ≡ d → given a n c ≡ given b m d
+  given-same e f g = rw (e, f, g)
 
   room-same : (t r : List ℕ) → length r ≡ length t → room r ≡ room t
   unfolding room
@@ -219,29 +223,29 @@ module _ (text : List ℕ) (short : length text ≤ 65536) where
     length-notes = ap length table-notes ∙ length-lay 0 u (append-all (notes-wide ds) (owned-wide 0 (waitingOf s)))
 
     fits-by : (x y : Bool) → ltb (room t) (length (nodeRows ds)) ≡ x → ltb (room u) (length (notes ds)) ≡ y
-        → fits st t′ u′ ≡ told (fitted ds t u) (left (fitted ds t u) (nodeRows ds) t) (left (fitted ds t u) (notes ds) u)
-    unfolding fits fitted left refusing
+        → fits st t′ u′ ≡ given (fitted ds t u) (left (fitted ds t u) (nodeRows ds) t) (left (fitted ds t u) (notes ds) u)
+    unfolding fits fitted left refusing said
     fits-by true y e d =
         let z : ltb (room t′) (st .next) ≡ true = rw (room-same t t′ length-nodes, count-nodes) e in
-        rw (z, e) (told-same refl (cleared-same t t′ length-nodes) (cleared-same u u′ length-notes))
+        rw (z, e) (given-same refl (cleared-same t t′ length-nodes) (cleared-same u u′ length-notes))
     fits-by false true e d =
         let z : ltb (room t′) (st .next) ≡ false = rw (room-same t t′ length-nodes, count-nodes) e in
         let w : ltb (room u′) (st .owned) ≡ true = rw (room-same u u′ length-notes, count-notes) d in
-        rw (z, e, w, d) (told-same refl (cleared-same t t′ length-nodes) (cleared-same u u′ length-notes))
+        rw (z, e, w, d) (given-same refl (cleared-same t t′ length-nodes) (cleared-same u u′ length-notes))
     fits-by false false e d =
         let z : ltb (room t′) (st .next) ≡ false = rw (room-same t t′ length-nodes, count-nodes) e in
         let w : ltb (room u′) (st .owned) ≡ false = rw (room-same u u′ length-notes, count-notes) d in
         rw (z, e, w, d)
-        (told-same (rw (count-nodes, count-notes))
+        (given-same (rw (count-nodes, count-notes))
         (ap (λ (n : ℕ). wiped (n * width) t′) count-nodes ∙ ap (wiped (length (nodeRows ds) * width)) table-nodes
         ∙ wiped-lay t (node-rows-wide ds) anil (ltb-false (room t) (length (nodeRows ds)) e))
         (ap (λ (n : ℕ). wiped (n * width) u′) count-notes ∙ ap (wiped (length (notes ds) * width)) table-notes
         ∙ wiped-lay u (notes-wide ds) (owned-wide 0 (waitingOf s)) (ltb-false (room u) (length (notes ds)) d)))
 
   judged-means : {o : Out} {r : Res (List Definition)} {i : ℕ} (t u : List ℕ) → Meant (λ ds. At text i 0 noParent (lent t u) (forest ds)) o r
-      → judged o (length text) t u ≡ told (answer (answered r text) t u) (left (answer (answered r text) t u) (rowsBy nodeRows (answered r text)) t)
+      → judged o (length text) t u ≡ given (answer (answered r text) t u) (left (answer (answered r text) t u) (rowsBy nodeRows (answered r text)) t)
       (left (answer (answered r text) t u) (rowsBy notes (answered r text)) u)
-  unfolding judged answered answer rowsBy refusingAt refusing ended endRule left
+  unfolding judged answered answer rowsBy refusingAt refusing ended endRule left said
   judged-means t u (went {a = ds} h) = fits-by t u ds h (ltb (room t) (length (nodeRows ds))) (ltb (room u) (length (notes ds))) refl refl
   judged-means t u halted = refl
 

@@ -13,7 +13,7 @@ use Prim.Native.Nat.{ℕ, zero, suc, _+_, _-_, _≤_}
 use native.Mathlib.Omega.{arith}
 use lib.ListN.{length, take, drop, replicate, length-drop, length-take, drop-of-length-le}
 use borrow.Rule.Slice.PartMut.{putMid}
-use Rattle.lexer.specs.declared.Checked.the-variants as C
+use Rattle.lexer.specs.Outcome.{refused}
 use Rattle.token.specs.Scan.{scan}
 use Rattle.token.specs.declared.Scan.{Scan}
 use Rattle.token.specs.declared.Scan.the-variants.{Miss, Hit}
@@ -29,7 +29,7 @@ use Rattle.parser.specs.declared.Answer.the-variants as A
 use Rattle.steps.specs.declared.state.State.{State}
 use Rattle.steps.specs.declared.state.Parsed.{Parsed}
 use Rattle.steps.specs.declared.state.Parsed.the-variants.{On, Refused}
-use Rattle.parser.specs.Read.{Reading, outcomeBy, outcome, answer, left, reading, told}
+use Rattle.parser.specs.Read.{Reading, outcomeBy, outcome, answer, left, reading, said, told}
 use Rattle.steps.specs.Into.{Out, done, stop, shows, restAt, loopIn, closesAt, most}
 use Rattle.parse_definitions.specs.Into.{definitionIn}
 use Rattle.reader.specs.Into.{inRest, restIn, betweenIn, overIn, documentIn, beginning, refusing, refusingAt, judged, unscanned, settled, parsing}
@@ -87,16 +87,16 @@ module _ (text t u t₁ u₁ : List ℕ) (st : State) (a : Parsed) (from : ℕ) 
 
 -- 20, 21, 22
 module _ (text t u : List ℕ) where
-  pub read-long : checked text ≡ C.TooLong → refusing 20 0 0 t u ≡ reading text t u
-  unfolding reading outcome outcomeBy answer left refusing
+  pub read-long : checked text ≡ refused 20 0 0 → refusing 20 0 0 t u ≡ reading text t u
+  unfolding reading outcome outcomeBy answer left refusing said
   read-long e = rw e refl
 
-  pub read-ill : (p : ℕ) → checked text ≡ C.IllFormed p → refusing 21 p 0 t u ≡ reading text t u
-  unfolding reading outcome outcomeBy answer left refusing
+  pub read-ill : (p : ℕ) → checked text ≡ refused 21 p 0 → refusing 21 p 0 t u ≡ reading text t u
+  unfolding reading outcome outcomeBy answer left refusing said
   read-ill p e = rw e refl
 
-  pub read-unknown : (p : ℕ) → checked text ≡ C.Unrecognized p → refusing 22 p 0 t u ≡ reading text t u
-  unfolding reading outcome outcomeBy answer left refusing
+  pub read-unknown : (p : ℕ) → checked text ≡ refused 22 p 0 → refusing 22 p 0 t u ≡ reading text t u
+  unfolding reading outcome outcomeBy answer left refusing said
   read-unknown p e = rw e refl
 
 -- ---- the places of 21 and 22 lie in the text

@@ -33,7 +33,7 @@ use Rattle.token.proofs.Words.{scan-words}
 use Rattle.token.proofs.Stable.{stable, fixed}
 use Rattle.lexer.specs.declared.location.Lexer.{Lexer}
 use Rattle.lexer.specs.declared.location.LOC.{LOC}
-use Rattle.lexer.specs.declared.Checked.the-variants as C
+use Rattle.lexer.specs.Outcome.{accepted}
 use Rattle.lexer.specs.Cuts.{Cuts, end, stuck, cut, cuts, unrecognized}
 use Rattle.lexer.specs.Location.{pass, between, opening}
 use Rattle.lexer.specs.Tokens.{Lexeme, lexeme, skipped, lexemes, tokens}
@@ -280,6 +280,6 @@ lexes ps h = lexes-from ps h opening
 pub cut-through : {ps : List Piece} → Sep ps → (a : ℕ) → unrecognized (cuts (bytesOf ps)) a ≡ none
 cut-through h a = gives h .passes a
 
-pub fine-print : {ps : List Piece} → Sep ps → length (bytesOf ps) ≤ 65536 → checked (bytesOf ps) ≡ C.Fine
+pub fine-print : {ps : List Piece} → Sep ps → length (bytesOf ps) ≤ 65536 → checked (bytesOf ps) ≡ accepted []
 unfolding checked limit verdict
 fine-print {ps} h l = rw (le-ltb 65536 (length (bytesOf ps)) l, well h, cut-through h 0)

@@ -4,3 +4,4 @@ pub mod Lexes
 pub mod Apart
 pub mod Back
 pub mod Places
+pub mod Said

@@ -2,14 +2,17 @@
 use mathlib.Core.Path.{refl, sym, _∙_}
 use borrow.Author.Needs.{needs}
 use Rattle.token.specs.Tables.{classes, trie}
+use Rattle.lexer.specs.Check.{refusal}
 use Rattle.lexer.proofs.CheckLaws.{too-long, ill, unknown, fine}
 use Rattle.lexer.proofs.check.Statement.{statement}
 use Rattle.lexer.proofs.check.Tie as tie
 
 returns : tie.Need-returns
+unfolding refusal
 returns c = sym (too-long _ (c .if1 .taken))
 
 returns-2 : tie.Need-returns-2
+unfolding refusal
 returns-2 c =
     let f = c .before .before .before in
     sym (ill _ (f .before .if1 .left) _ (sym (f .ill-formed .ensures) ∙ c .before .at .given .1))
@@ -19,6 +22,7 @@ unfolding classes trie
 unrecognized-requires c κs = (refl, refl)
 
 returns-3 : tie.Need-returns-3
+unfolding refusal
 returns-3 c =
     let u = c .before .before .before in
     let n = u .before .before .before in
@@ -26,6 +30,7 @@ returns-3 c =
     sym (unknown _ (f .before .if1 .left) _ (sym (f .ill-formed .ensures) ∙ n .enum-told .given .1) (sym (u .unrecognized .ensures) ∙ c .before .at2 .given .1))
 
 returns-4 : tie.Need-returns-4
+unfolding refusal
 returns-4 c =
     let u = c .before .before in
     let n = u .before .before .before in

@@ -1,31 +1,36 @@
--- `link::hirvelan_check` meets its contract: each arm is one case of `refusal`. Assumes nothing.
-use mathlib.Core.Path.{sym, ap, _∙_}
-use Prim.Native.Nat.{ℕ}
-use borrow.Author.Needs.{needs}
-use lib.ListN.{getD}
-use Rattle.lexer.specs.declared.Checked.{Checked}
+-- `link::hirvelan_check` meets its contract: each arm is one case of `refusal`.
+use mathlib.Core.Path.{refl}
+use native.Mathlib.Omega.{arith}
+use Rattle.lexer.specs.Outcome.{numbers}
 use Rattle.lexer.specs.Check.{refusal}
+use Rattle.link.proofs.Answers.{check-answer, place-small}
+use borrow.Author.Needs.{needs}
 use Rattle.link.proofs.hirvelan_check.Statement.{statement}
 use Rattle.link.proofs.hirvelan_check.Tie as tie
 
-number : Checked → ℕ
-number r = getD (refusal r) 0 0
+cast-t20 : tie.Need-cast-t20
+unfolding refusal
+cast-t20 c = omega (arith, place-small _ _ (c .before .before .before .check .ensures) _ _ _ _ (c .before .at .given .1) refl)
+
+cast-t26 : tie.Need-cast-t26
+unfolding refusal
+cast-t26 c = omega (arith, place-small _ _ (c .before .before .before .check .ensures) _ _ _ _ (c .before .at2 .given .1) refl)
 
 returns : tie.Need-returns
-unfolding number refusal
-returns c = ap number (sym (c .enum-told .given .1) ∙ c .before .before .check .ensures)
+unfolding refusal numbers
+returns c = check-answer _ _ (c .before .before .before .before .before .before .before .check .ensures) _ _ _ _ (c .before .before .before .before .before .enum-told .given .1) refl (c .before .before .fill-u32 .ensures)
 
 returns-2 : tie.Need-returns-2
-unfolding number refusal
-returns-2 c = ap number (sym (c .enum-told2 .given .1) ∙ c .before .before .check .ensures)
+unfolding refusal numbers
+returns-2 c = check-answer _ _ (c .before .before .before .before .before .before .before .check .ensures) _ _ _ _ (c .before .before .before .before .before .enum-told2 .given .1) refl (c .before .before .fill-u322 .ensures)
 
 returns-3 : tie.Need-returns-3
-unfolding number refusal
-returns-3 c = ap number (sym (c .enum-told3 .given .1) ∙ c .before .before .check .ensures)
+unfolding refusal numbers
+returns-3 c = check-answer _ _ (c .before .before .before .before .before .before .before .before .check .ensures) _ _ _ _ (c .before .before .before .before .before .before .at .given .1) refl (c .before .before .fill-u323 .ensures)
 
 returns-4 : tie.Need-returns-4
-unfolding number refusal
-returns-4 c = ap number (sym (c .enum-told4 .given .1) ∙ c .before .before .check .ensures)
+unfolding refusal numbers
+returns-4 c = check-answer _ _ (c .before .before .before .before .before .before .before .before .check .ensures) _ _ _ _ (c .before .before .before .before .before .before .at2 .given .1) refl (c .before .before .fill-u324 .ensures)
 
 pub hirvelan-check-spec : {M : Type 1} → statement M
 hirvelan-check-spec =
@@ -34,9 +39,23 @@ hirvelan-check-spec =
     (λ c κs. search needs)
     (λ c. search needs)
     (λ c. search needs)
+    (λ c κs. search needs)
     (λ c. search needs)
+    (λ c. search needs)
+    (λ c κs. search needs)
+    (λ c. search needs)
+    cast-t20
+    (λ c. search needs)
+    (λ c κs. search needs)
+    (λ c. search needs)
+    cast-t26
+    (λ c. search needs)
+    (λ c κs. search needs)
     (λ c. search needs)
     returns
+    (λ c. search needs)
     returns-2
+    (λ c. search needs)
     returns-3
+    (λ c. search needs)
     returns-4)

@@ -1,18 +1,19 @@
--- `link::hirvelan_read` meets its contract. Assumes nothing.
+-- `link::hirvelan_read` meets its contract.
 use mathlib.Core.Path.{refl}
-use Rattle.parser.specs.Read.{numbers}
-use Rattle.link.proofs.Answers.{read-nodes, read-comments, read-answer}
+use Rattle.lexer.specs.Outcome.{numbers}
+use Rattle.parser.specs.Read.{said}
+use Rattle.link.proofs.Answers.{read-answer}
 use borrow.Author.Needs.{needs}
 use Rattle.link.proofs.hirvelan_read.Statement.{statement}
 use Rattle.link.proofs.hirvelan_read.Tie as tie
 
 returns : tie.Need-returns
-unfolding numbers
-returns c = (read-nodes _ _ _ _ (c .before .before .before .before .before .before .before .before .before .before .before .read .ensures), read-comments _ _ _ _ (c .before .before .before .before .before .before .before .before .before .before .before .read .ensures), read-answer _ _ _ _ (c .before .before .before .before .before .before .before .before .before .before .before .read .ensures) _ _ _ _ (c .before .before .before .before .before .n .given .1) refl (c .before .before .put-numbers .ensures))
+unfolding said numbers
+returns c = let d = c .before .before .before .before .before .before .before .before .before .before .before .before .read in read-answer (d .result) _ _ _ _ (d .ensures) _ _ _ (c .before .before .before .before .before .before .n .given .1) refl (c .before .before .fill-u32 .ensures)
 
 returns-2 : tie.Need-returns-2
-unfolding numbers
-returns-2 c = (read-nodes _ _ _ _ (c .before .before .before .before .before .before .before .before .before .before .before .read .ensures), read-comments _ _ _ _ (c .before .before .before .before .before .before .before .before .before .before .before .read .ensures), read-answer _ _ _ _ (c .before .before .before .before .before .before .before .before .before .before .before .read .ensures) _ _ _ _ (c .before .before .before .before .before .number .given .1) refl (c .before .before .put-numbers2 .ensures))
+unfolding said numbers
+returns-2 c = let d = c .before .before .before .before .before .before .before .before .before .before .before .before .read in read-answer (d .result) _ _ _ _ (d .ensures) _ _ _ (c .before .before .before .before .before .before .number .given .1) refl (c .before .before .fill-u322 .ensures)
 
 pub hirvelan-read-spec : {M : Type 1} → statement M
 hirvelan-read-spec =
@@ -20,7 +21,9 @@ hirvelan-read-spec =
     (tie.spec
     (λ c κs. search needs)
     (λ c. search needs)
+    (λ c. search needs)
     (λ c κs. search needs)
+    (λ c. search needs)
     (λ c. search needs)
     (λ c κs. search needs)
     (λ c. search needs)

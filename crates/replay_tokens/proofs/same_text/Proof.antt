@@ -1,6 +1,5 @@
 -- `replay_tokens::same_text` meets its contract: a text that is cut is short enough for the lexer. Assumes nothing.
-use mathlib.Core.Path.{sym, _∙_}
-use Rattle.lexer.proofs.CheckLaws.{fine-fits, unknown-fits}
+use Rattle.lexer.proofs.CheckLaws.{fine-fits, unknown-fits, told-fine, told-unknown}
 use borrow.Author.Needs.{needs}
 use Rattle.replay_tokens.proofs.same_text.Statement.{statement}
 use Rattle.replay_tokens.proofs.same_text.Tie as tie
@@ -8,12 +7,12 @@ use Rattle.replay_tokens.proofs.same_text.Tie as tie
 same-cuts-requires : tie.Need-same-cuts-requires
 same-cuts-requires c κs =
     let e = c .before in
-    fine-fits _ (sym (e .before .before .check .ensures) ∙ e .enum-told .given .1)
+    fine-fits _ (told-fine _ _ (e .before .before .check .ensures) (e .enum-told .given .1))
 
 same-cuts-requires-2 : tie.Need-same-cuts-requires-2
 same-cuts-requires-2 c κs =
     let e = c .before .before .before in
-    unknown-fits _ _ (sym (e .before .before .check .ensures) ∙ e .at2 .given .1)
+    unknown-fits _ _ (told-unknown _ _ (e .before .before .check .ensures) _ (e .at2 .given .1))
 
 pub same-text-spec : {M : Type 1} → statement M
 same-text-spec =

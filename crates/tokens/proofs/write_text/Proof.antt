@@ -1,7 +1,7 @@
 -- `tokens::write_text` meets its contract: a text that is not refused is short enough for the lexer. Assumes nothing.
-use mathlib.Core.Path.{refl, sym, _∙_}
+use mathlib.Core.Path.{refl}
 use Rattle.token.specs.Tables.{classes, trie}
-use Rattle.lexer.proofs.CheckLaws.{fine-fits}
+use Rattle.lexer.proofs.CheckLaws.{fine-fits, told-fine}
 use borrow.Author.Needs.{needs}
 use Rattle.tokens.proofs.write_text.Statement.{statement}
 use Rattle.tokens.proofs.write_text.Tie as tie
@@ -10,7 +10,7 @@ write-tokens-requires : tie.Need-write-tokens-requires
 unfolding classes trie
 write-tokens-requires c κs =
     let e = c .before .before in
-    (refl, refl, fine-fits _ (sym (e .before .before .check .ensures) ∙ e .enum-told .given .1))
+    (refl, refl, fine-fits _ (told-fine _ _ (e .before .before .check .ensures) (e .enum-told .given .1)))
 
 pub write-text-spec : {M : Type 1} → statement M
 write-text-spec =
