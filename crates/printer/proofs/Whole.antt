@@ -11,7 +11,8 @@ use lib.ListN.{length}
 use Rattle.parser.specs.declared.Answer.{Answer}
 use Rattle.parser.specs.declared.Answer.the-variants as A
 use Rattle.parser.specs.Read.{Reading, reading, said, told as read-told}
-use Rattle.writer.specs.Write.{Printing}
+use Rattle.lexer.specs.Check.{limit}
+use Rattle.writer.specs.Write.{widest, Printing}
 use Rattle.cursor.specs.declared.Cursor.{Cursor}
 use Rattle.cursor.specs.Onto.{Reached, reached}
 use Rattle.write_definitions.specs.Onto.{documentOut}
@@ -24,16 +25,16 @@ written-is text indent n c t u o o′ p r e f = f ∙ ap (λ (i : Reached). ende
 
 module _ (text : List ℕ) (indent : ℕ) (t u o : List ℕ) where
   pub all-long : 65536 < length text → refusing 20 0 0 t u o ≡ all text indent t u o
-  unfolding all
+  unfolding all limit
   all-long h = rw (lt-ltb _ _ h)
 
   pub all-wide : length text ≤ 65536 → 8 < indent → refusing 26 0 0 t u o ≡ all text indent t u o
-  unfolding all
+  unfolding all limit widest
   all-wide h k = rw (le-ltb _ _ h, lt-ltb _ _ k)
 
   module _ (h : length text ≤ 65536) (k : indent ≤ 8) (a : Answer) (t₁ u₁ : List ℕ) (e : read-told a t₁ u₁ ≡ reading text t u) where
     all-read : byAnswer (said a) text indent t₁ u₁ o ≡ all text indent t u o
-    unfolding all byReading
+    unfolding all limit widest byReading
     all-read = ap (λ (r : Reading). byReading r text indent o) e ∙ rw (le-ltb _ _ h, le-ltb _ _ k)
 
     pub all-refused : (n p l : ℕ) → a ≡ A.Refused n p l → refusing n p l t₁ u₁ o ≡ all text indent t u o

@@ -10,7 +10,8 @@ use Rattle.ast.specs.Records.{cleared}
 use Rattle.parser.specs.Read.{Reading, reading}
 use Rattle.steps.specs.Into.{wiped}
 use Rattle.writer.specs.declared.Printed.the-variants.{Accepted, Refused}
-use Rattle.writer.specs.Write.{Printing, told}
+use Rattle.lexer.specs.Check.{limit}
+use Rattle.writer.specs.Write.{widest, Printing, told}
 use Rattle.cursor.specs.declared.Cursor.{Cursor}
 use Rattle.cursor.specs.Onto.{Reached, reached}
 use Rattle.write_definitions.specs.Onto.{documentOut}
@@ -44,5 +45,5 @@ byReading r text indent o = byAnswer (r .says) text indent (r .nodes) (r .commen
 -- 20 and 26, then the reading, then the writing
 unfoldable pub all : List ℕ → ℕ → List ℕ → List ℕ → List ℕ → Printing
 all text indent t u o =
-    cond (ltb 65536 (length text)) (refusing 20 0 0 t u o)
-    (cond (ltb 8 indent) (refusing 26 0 0 t u o) (byReading (reading text t u) text indent o))
+    cond (ltb limit (length text)) (refusing 20 0 0 t u o)
+    (cond (ltb widest indent) (refusing 26 0 0 t u o) (byReading (reading text t u) text indent o))

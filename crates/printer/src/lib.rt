@@ -94,10 +94,10 @@ pub fn print(
 ) -> Printed
     ensures { λ r. ⌜ told r (now (nodes .exit)) (now (comments .exit)) (now (out .exit)) ≡ printing (now (text .entry)) indent (now (nodes .entry)) (now (comments .entry)) (now (out .entry)) ⌝ }
 {
-    if 65536 < text.len() {
+    if lexer::LIMIT < text.len() {
         return refuse(20, 0, 0, nodes, comments, out);
     }
-    if 8 < indent {
+    if writer::WIDEST < indent {
         return refuse(26, 0, 0, nodes, comments, out);
     }
     match reader::read(text, nodes, comments) {
