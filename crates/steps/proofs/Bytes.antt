@@ -3,10 +3,11 @@
 --     Within              a refusal, or a state with at least x bytes fewer than b
 --     Falls, Rests        of a reader: each time it answers it leaves fewer bytes; or no more
 --     after-w, cond-w, weak-w     through one reader behind another, and a test
---     rested, fell        the same by the call that returned the state, or answered
+--     rested, fell        the same by the call that returned the state, or answered; quiet-left, still-left: by its contract
+--     passed-is, comments-is      a skip is its first token, and then a skip
 use mathlib.Core.Path.{_≡_, refl, sym, ap, _∙_}
 use mathlib.Core.Bool.{Bool, true, false, cond, false≢true}
-use mathlib.Core.List.{List}
+use mathlib.Core.List.{List, []}
 use Prim.Native.Nat.{ℕ, zero, suc, _+_, _-_, _<_, _≤_}
 use native.Mathlib.Omega.{arith}
 use lib.Dec.{eqb, ltb}
@@ -33,6 +34,8 @@ use Rattle.steps.specs.Into.{
   after,
   _⨟_,
   shows,
+  Quiet,
+  Still,
   opened,
   leafIn,
   nodeIn,
@@ -147,6 +150,14 @@ module _ {text : List ℕ} where
   unfolding shows
   fell m f a st t u st′ t′ u′ e h = omega (arith, left-by (f st t u) (sym (ap (λ (x : Parsed). shows x t′ u′) h) ∙ e))
 
+-- whatever the tables
+pub quiet-left : (text : List ℕ) (m : M) → Falls text m → (a : Parsed) (st st′ : State) (t t′ : List ℕ) → Quiet m st a t t′ → a ≡ On st′
+    → bytesLeft text st′ < bytesLeft text st
+quiet-left text m f a st st′ t t′ e h = fell m f a st t [] st′ t′ [] (e []) h
+
+pub still-left : (text : List ℕ) (m : M) → Falls text m → (a : Parsed) (st st′ : State) → Still m st a → a ≡ On st′ → bytesLeft text st′ < bytesLeft text st
+still-left text m f a st st′ e h = fell m f a st [] [] st′ [] [] (e [] []) h
+
 -- ---- the steps
 
 pub refused-w : {text : List ℕ} {x b : ℕ} (e : ℕ) (st : State) → Within text x b (refused e st)
@@ -186,9 +197,11 @@ module _ (text : List ℕ) where
   unfolding opened bytesLeft
   opened-left st = refl
 
-  pub opened-w : {x : ℕ} (m : M) (st : State) (t u : List ℕ) → Within text x (bytesLeft text (opened st)) (m (opened st) t u)
-      → Within text x (bytesLeft text st) (m (opened st) t u)
-  opened-w m st t u h = rw opened-left at h
+  pub opened-by : (x st : State) → x ≡ opened st → bytesLeft text x ≡ bytesLeft text st
+  opened-by x st h = ap (bytesLeft text) h ∙ opened-left st
+
+  pub opened-w : {x : ℕ} {o : Out} (st : State) → Within text x (bytesLeft text (opened st)) o → Within text x (bytesLeft text st) o
+  opened-w st h = rw opened-left at h
 
 -- ---- separators and comments
 
