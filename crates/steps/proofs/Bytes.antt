@@ -2,7 +2,8 @@
 --     advance-falls       a token ahead, one token further: fewer bytes are left
 --     Within              a refusal, or a state with at least x bytes fewer than b
 --     Falls, Rests        of a reader: each time it answers it leaves fewer bytes; or no more
---     after-w, cond-w, weak-w     through one reader behind another, and a test
+--     after-w, cond-w, cond-known, weak-w     through one reader behind another, and a test
+--     opened-w, advanced-w        behind a node that is begun, and behind the token ahead
 --     rested, fell        the same by the call that returned the state, or answered; quiet-left, still-left: by its contract
 --     passed-is, comments-is      a skip is its first token, and then a skip
 use mathlib.Core.Path.{_≡_, refl, sym, ap, _∙_}
@@ -115,6 +116,11 @@ module _ {text : List ℕ} where
   cond-w true f g = f
   cond-w false f g = g
 
+  -- by a test whose outcome the branches may use
+  pub cond-known : {x a : ℕ} {o v : Out} (b : Bool) → (b ≡ true → Within text x a o) → (b ≡ false → Within text x a v) → Within text x a (cond b o v)
+  cond-known true f g = f refl
+  cond-known false f g = g refl
+
   -- two that go on alike from where a reader leaves them
   pub after-same : {x a : ℕ} {o : Out} {k j : M} → Within text x a o → ((st : State) (t u : List ℕ) → x + bytesLeft text st ≤ a → k st t u ≡ j st t u)
       → after o k ≡ after o j
@@ -150,7 +156,7 @@ module _ {text : List ℕ} where
   unfolding shows
   fell m f a st t u st′ t′ u′ e h = omega (arith, left-by (f st t u) (sym (ap (λ (x : Parsed). shows x t′ u′) h) ∙ e))
 
--- whatever the tables
+-- by the contract, whatever the tables
 pub quiet-left : (text : List ℕ) (m : M) → Falls text m → (a : Parsed) (st st′ : State) (t t′ : List ℕ) → Quiet m st a t t′ → a ≡ On st′
     → bytesLeft text st′ < bytesLeft text st
 quiet-left text m f a st st′ t t′ e h = fell m f a st t [] st′ t′ [] (e []) h
@@ -164,7 +170,23 @@ pub refused-w : {text : List ℕ} {x b : ℕ} (e : ℕ) (st : State) → Within 
 unfolding refused
 refused-w e st = cond-w (eqb (st .kind) 255) stopped stopped
 
+-- a test of the kind ahead that fails where none is
+pub some-by : (g : ℕ → Bool) → g 255 ≡ false → (k : ℕ) → g k ≡ true → eqb k 255 ≡ false
+some-by g f k h = go (eqb k 255) refl
+  where
+    go : (b : Bool) → eqb k 255 ≡ b → eqb k 255 ≡ false
+    go true e = let a = eqb-true k 255 e in absurd (false≢true (sym f ∙ rw a at h))
+    go false e = e
+
 module _ (text : List ℕ) where
+  pub stays-w : (st : State) (t u : List ℕ) → Within text 0 (bytesLeft text st) (done st t u)
+  stays-w st t u = within {st = st} (omega arith)
+
+  -- the token ahead is taken first
+  pub advanced-w : {x : ℕ} {o : Out} (st : State) → eqb (st .kind) 255 ≡ false → Within text x (bytesLeft text (advanced text st)) o
+      → Within text (suc x) (bytesLeft text st) o
+  advanced-w st e h = let l = advance-falls text st e in weak-w (λ n i. omega arith) h
+
   by-none : {X : Type 0} (st : State) → (eqb (st .kind) 255 ≡ true → X) → (eqb (st .kind) 255 ≡ false → X) → X
   by-none {X} st f g = go (eqb (st .kind) 255) refl
     where
@@ -207,12 +229,8 @@ module _ (text : List ℕ) where
 
 pub passes-some : (k : ℕ) (s : Bool) → passes k s ≡ true → eqb k 255 ≡ false
 unfolding passes isSeparator isComment
-passes-some k s h = go s (eqb k 255) refl h
-  where
-    go : (s b : Bool) → eqb k 255 ≡ b → passes k s ≡ true → eqb k 255 ≡ false
-    go s false e h = e
-    go true true e h = let a = eqb-true k 255 e in absurd (false≢true (rw a at h))
-    go false true e h = let a = eqb-true k 255 e in absurd (false≢true (rw a at h))
+passes-some k true h = some-by (λ n. passes n true) refl k h
+passes-some k false h = some-by (λ n. passes n false) refl k h
 
 pub comment-some : (k : ℕ) → isComment k ≡ true → eqb k 255 ≡ false
 unfolding passes
@@ -225,11 +243,6 @@ separator-some k h = passes-some k true h
 cond-same : {A : Type 0} (b : Bool) {x y v w : A} → (b ≡ true → x ≡ y) → (b ≡ false → v ≡ w) → cond b x v ≡ cond b y w
 cond-same true f g = f refl
 cond-same false f g = g refl
-
--- the same by a test whose outcome the branches may use
-cond-known : {text : List ℕ} {x a : ℕ} {o v : Out} (b : Bool) → (b ≡ true → Within text x a o) → (b ≡ false → Within text x a v) → Within text x a (cond b o v)
-cond-known true f g = f refl
-cond-known false f g = g refl
 
 module _ (text : List ℕ) (s : Bool) where
   skip-fuel : (n m : ℕ) (st : State) → bytesLeft text st < n → bytesLeft text st < m → skipFrom text s n st ≡ skipFrom text s m st

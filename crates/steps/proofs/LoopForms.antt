@@ -73,6 +73,8 @@ module _ (text : List ℕ) (closing : State → Bool) (skips shut member : M) (r
       w ∙ loop-is st t u
       ∙ ap (λ (o : Out). after o (λ st t u. cond (closing st) (shut st t u) (after (member st t u) (loopIn text closing skips shut member)))) (sym e)
 
+-- a turn leaves fewer bytes
+module _ (text : List ℕ) (skips member : M) (rests : Rests text skips) (falls : Falls text member) where
   pub turn-falls : (a : Parsed) (st : State) (t u : List ℕ) (st₁ : State) (t₁ u₁ : List ℕ) (st₂ : State) (t₂ u₂ : List ℕ)
       → done st₁ t₁ u₁ ≡ skips st t u → shows a t₂ u₂ ≡ member st₁ t₁ u₁ → a ≡ On st₂ → bytesLeft text st₂ < bytesLeft text st
   turn-falls a st t u st₁ t₁ u₁ st₂ t₂ u₂ e f g = omega (arith, rested skips rests st t u e, fell member falls a st₁ t₁ u₁ st₂ t₂ u₂ f g)
