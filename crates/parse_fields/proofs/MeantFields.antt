@@ -43,7 +43,7 @@ use Rattle.ast.specs.Tree.{
   fieldTree,
 }
 use Rattle.steps.specs.declared.state.State.{State}
-use Rattle.parser.specs.Steps.{kind, bytes, place, span, St, Res, P, test, peek, when, next, want, many}
+use Rattle.parser.specs.Steps.{kind, bytes, place, span, St, Res, P, test, peek, when, next, want}
 use Rattle.parser.specs.Definitions as D
 use Rattle.parser.specs.Definitions.{
   separators,

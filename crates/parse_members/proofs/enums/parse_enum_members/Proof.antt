@@ -22,49 +22,49 @@ abbrev μ-loop : tie.MeasureT-loop
 μ-loop class trie text base parent rest₀ comments₀ state₀ rest comments state = bytesLeft text state
 
 expect-requires : tie.Need-expect-requires Inv-loop μ-loop
-expect-requires c κs = @pre
+expect-requires c κs = c .before .before .before .pre
 
 returns : tie.Need-returns Inv-loop μ-loop
-returns c = off _ _ _ (enum-members-is _ _ _ _ _ _ ∙ members-is _ _ _ _ _ _ _) _ _ _ _ _ (@expect .ensures _ _) (@enum-told .given .1) _ _
+returns c = off _ _ _ (enum-members-is _ _ _ _ _ _ ∙ members-is _ _ _ _ _ _ _) _ _ _ _ _ (c .before .before .expect .ensures _ _) (c .enum-told .given .1) _ _
 
 loop-holds : tie.Need-loop-holds Inv-loop μ-loop
 loop-holds c = loop-starts _ _ _ _ _ _ _ _
 
 skip-requires : tie.Need-skip-requires Inv-loop μ-loop
-skip-requires c κs = @pre
+skip-requires c κs = c .before .before .before .before .before .before .before .before .pre
 
 skip-comments-requires : tie.Need-skip-comments-requires Inv-loop μ-loop
-skip-comments-requires c κs = @pre
+skip-comments-requires c κs = c .before .before .before .before .before .before .before .before .before .before .pre
 
 take-requires : tie.Need-take-requires Inv-loop μ-loop
-take-requires c κs = @pre
+take-requires c κs = c .before .before .before .before .before .before .before .before .before .before .before .before .before .before .before .pre
 
 same-length : tie.Need-same-length Inv-loop μ-loop
-same-length c = @loop .inv .long
+same-length c = c .before .before .before .before .before .before .before .before .loop .inv .long
 
 same-length-2 : tie.Need-same-length-2 Inv-loop μ-loop
-same-length-2 c = @skip-comments .kept .1 .1 .1 .1 .1 .0 ∙ @loop .inv .wide
+same-length-2 c = c .before .before .before .before .before .skip-comments .kept .1 .1 .1 .1 .1 .0 ∙ c .before .before .before .before .before .before .before .before .loop .inv .wide
 
 returns-2 : tie.Need-returns-2 Inv-loop μ-loop
-returns-2 c = last _ _ _ _ _ (closes _ _ _ _ _ (turn _ _ _ _ _ (skip-member-rests _) (member-falls _ _ _) _ _ _ _ _ _ _ (on _ _ _ (enum-members-is _ _ _ _ _ _ ∙ members-is _ _ _ _ _ _ _) _ _ _ _ (@expect .ensures _ _) (@opened .given .1) ∙ @loop .inv .goes) (skip-member _ _ _ _ _ _ _ (@skip .ensures) (@skip-comments .ensures _))) (@if1 .taken)) (@take .ensures _ _)
+returns-2 c = last _ _ _ _ _ (closes _ _ _ _ _ (turn _ _ _ _ _ (skip-member-rests _) (member-falls _ _ _) _ _ _ _ _ _ _ (on _ _ _ (enum-members-is _ _ _ _ _ _ ∙ members-is _ _ _ _ _ _ _) _ _ _ _ (c .before .before .before .before .before .before .before .before .before .before .before .before .expect .ensures _ _) (c .before .before .before .before .before .before .before .before .before .before .opened .given .1) ∙ c .before .before .before .before .before .before .before .before .loop .inv .goes) (skip-member _ _ _ _ _ _ _ (c .before .before .before .before .before .before .before .skip .ensures) (c .before .before .before .before .before .skip-comments .ensures _))) (c .before .if1 .taken)) (c .take .ensures _ _)
 
 parse-enum-member-requires : tie.Need-parse-enum-member-requires Inv-loop μ-loop
-parse-enum-member-requires c κs = @pre
+parse-enum-member-requires c κs = c .before .before .before .before .before .before .before .before .before .before .before .before .before .before .before .before .before .pre
 
 same-length-3 : tie.Need-same-length-3 Inv-loop μ-loop
-same-length-3 c = @parse-enum-member .kept .1 .1 .1 .1 .1 .1 .0 ∙ @loop .inv .long
+same-length-3 c = c .before .before .before .before .before .before .parse-enum-member .kept .1 .1 .1 .1 .1 .1 .0 ∙ c .before .before .before .before .before .before .before .before .before .before .before .before .before .before .before .before .loop .inv .long
 
 same-length-4 : tie.Need-same-length-4 Inv-loop μ-loop
-same-length-4 c = @parse-enum-member .kept .1 .1 .1 .1 .1 .1 .1 .0 ∙ @skip-comments .kept .1 .1 .1 .1 .1 .0 ∙ @loop .inv .wide
+same-length-4 c = c .before .before .before .before .before .before .parse-enum-member .kept .1 .1 .1 .1 .1 .1 .1 .0 ∙ c .before .before .before .before .before .before .before .before .before .before .before .before .before .skip-comments .kept .1 .1 .1 .1 .1 .0 ∙ c .before .before .before .before .before .before .before .before .before .before .before .before .before .before .before .before .loop .inv .wide
 
 returns-3 : tie.Need-returns-3 Inv-loop μ-loop
-returns-3 c = off _ _ _ (stays _ _ _ _ _ (turn _ _ _ _ _ (skip-member-rests _) (member-falls _ _ _) _ _ _ _ _ _ _ (on _ _ _ (enum-members-is _ _ _ _ _ _ ∙ members-is _ _ _ _ _ _ _) _ _ _ _ (@expect .ensures _ _) (@opened .given .1) ∙ @loop .inv .goes) (skip-member _ _ _ _ _ _ _ (@skip .ensures) (@skip-comments .ensures _))) (@if1 .left)) _ _ _ _ _ (@parse-enum-member .ensures) (@enum-told2 .given .1) _ _
+returns-3 c = off _ _ _ (stays _ _ _ _ _ (turn _ _ _ _ _ (skip-member-rests _) (member-falls _ _ _) _ _ _ _ _ _ _ (on _ _ _ (enum-members-is _ _ _ _ _ _ ∙ members-is _ _ _ _ _ _ _) _ _ _ _ (c .before .before .before .before .before .before .before .before .before .before .before .before .before .before .before .before .before .before .before .before .expect .ensures _ _) (c .before .before .before .before .before .before .before .before .before .before .before .before .before .before .before .before .before .before .opened .given .1) ∙ c .before .before .before .before .before .before .before .before .before .before .before .before .before .before .before .before .loop .inv .goes) (skip-member _ _ _ _ _ _ _ (c .before .before .before .before .before .before .before .before .before .before .before .before .before .before .before .skip .ensures) (c .before .before .before .before .before .before .before .before .before .before .before .before .before .skip-comments .ensures _))) (c .before .before .before .before .before .before .before .before .before .if1 .left)) _ _ _ _ _ (c .before .before .before .before .before .before .parse-enum-member .ensures) (c .enum-told2 .given .1) _ _
 
 loop-less : tie.Need-loop-less Inv-loop μ-loop
-loop-less c = turn-falls _ _ _ (skip-member-rests _) (member-falls _ _ _) _ _ _ _ _ _ _ _ _ _ (skip-member _ _ _ _ _ _ _ (@skip .ensures) (@skip-comments .ensures _)) (@parse-enum-member .ensures) (@read .given .1)
+loop-less c = turn-falls _ _ _ (skip-member-rests _) (member-falls _ _ _) _ _ _ _ _ _ _ _ _ _ (skip-member _ _ _ _ _ _ _ (c .before .before .before .before .before .before .before .before .before .before .before .before .before .before .before .before .skip .ensures) (c .before .before .before .before .before .before .before .before .before .before .before .before .before .before .skip-comments .ensures _)) (c .before .before .before .before .before .before .before .parse-enum-member .ensures) (c .before .read .given .1)
 
 loop-again : tie.Need-loop-again Inv-loop μ-loop
-loop-again c = record { goes = on _ _ _ (stays _ _ _ _ _ (turn _ _ _ _ _ (skip-member-rests _) (member-falls _ _ _) _ _ _ _ _ _ _ (@loop .inv .goes) (skip-member _ _ _ _ _ _ _ (@skip .ensures) (@skip-comments .ensures _))) (@if1 .left)) _ _ _ _ (@parse-enum-member .ensures) (@read .given .1); long = @parse-enum-member .kept .1 .1 .1 .1 .1 .1 .0 ∙ @loop .inv .long; wide = @parse-enum-member .kept .1 .1 .1 .1 .1 .1 .1 .0 ∙ @skip-comments .kept .1 .1 .1 .1 .1 .0 ∙ @loop .inv .wide }
+loop-again c = record { goes = on _ _ _ (stays _ _ _ _ _ (turn _ _ _ _ _ (skip-member-rests _) (member-falls _ _ _) _ _ _ _ _ _ _ (c .before .before .before .before .before .before .before .before .before .before .before .before .before .before .before .before .before .loop .inv .goes) (skip-member _ _ _ _ _ _ _ (c .before .before .before .before .before .before .before .before .before .before .before .before .before .before .before .before .skip .ensures) (c .before .before .before .before .before .before .before .before .before .before .before .before .before .before .skip-comments .ensures _))) (c .before .before .before .before .before .before .before .before .before .before .if1 .left)) _ _ _ _ (c .before .before .before .before .before .before .before .parse-enum-member .ensures) (c .before .read .given .1); long = c .before .before .before .before .before .before .before .parse-enum-member .kept .1 .1 .1 .1 .1 .1 .0 ∙ c .before .before .before .before .before .before .before .before .before .before .before .before .before .before .before .before .before .loop .inv .long; wide = c .before .before .before .before .before .before .before .parse-enum-member .kept .1 .1 .1 .1 .1 .1 .1 .0 ∙ c .before .before .before .before .before .before .before .before .before .before .before .before .before .before .skip-comments .kept .1 .1 .1 .1 .1 .0 ∙ c .before .before .before .before .before .before .before .before .before .before .before .before .before .before .before .before .before .loop .inv .wide }
 
 pub parse-enum-members-spec : {M : Type 1} → statement M
 parse-enum-members-spec =
