@@ -133,7 +133,7 @@ module _ (text : List ℕ) where
 
   none-w : (st : State) → eqb (st .kind) 255 ≡ true → (t u : List ℕ) → Within text 1 (bytesLeft text st) (definitionIn text st t u)
   unfolding definitionIn
-  none-w st e t u = let k = eqb-true (st .kind) 255 e in rw k (refused-w 2 st)
+  none-w st e t u = let k = eqb-true (st .kind) 255 e in rw k (refused-w 2 _)
 
   pub definition-falls : Falls text (definitionIn text)
   definition-falls st t u = go (eqb (st .kind) 255) refl
