@@ -1,5 +1,5 @@
 -- A definition leaves fewer bytes than there were: its keyword is taken.
-use mathlib.Core.Path.{_≡_, refl, sym, _∙_}
+use mathlib.Core.Path.{_≡_, refl}
 use mathlib.Core.Bool.{Bool, true, false}
 use mathlib.Core.List.{List}
 use Prim.Native.Nat.{ℕ}
@@ -13,20 +13,16 @@ use Rattle.steps.proofs.Bytes.{
   Falls,
   Rests,
   Within,
-  within,
   weak-w,
   after-w,
   cond-w,
   cond-known,
   falls-rests,
-  fall-rest,
   rest-rest,
   refused-w,
   some-by,
   stays-w,
-  advance-falls,
   advanced-w,
-  opened-w,
   expect-falls,
   node-rests,
   comments-rests,

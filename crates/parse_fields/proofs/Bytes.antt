@@ -1,5 +1,5 @@
 -- What the readers of names, annotations and fields leave: fewer bytes than there were (..-falls), or no more (..-rests).
-use mathlib.Core.Path.{_≡_, refl, ap, _∙_}
+use mathlib.Core.Path.{_≡_, refl, ap}
 use mathlib.Core.Bool.{Bool, true, false, not, cond}
 use mathlib.Core.List.{List}
 use Prim.Native.Nat.{ℕ, _≤_}

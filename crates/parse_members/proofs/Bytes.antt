@@ -14,7 +14,6 @@ use Rattle.steps.proofs.Bytes.{
   after-w,
   cond-w,
   cond-known,
-  falls-rests,
   fall-rest,
   rest-rest,
   some-by,

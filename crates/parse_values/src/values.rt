@@ -173,10 +173,10 @@ fn parse_properties(
             return steps::take(class, trie, text, found);
         }
         let read = parse_property(class, trie, text, found, depth, base, parent, rest);
-        let Parsed::On(behind) = read else {
+        let Parsed::On(past) = read else {
             return read;
         };
-        state = behind;
+        state = past;
     }
 }
 

@@ -3,10 +3,8 @@ use mathlib.Core.Bool.{true, false}
 use mathlib.Core.List.{List}
 use Prim.Native.Nat.{ℕ}
 use lib.ListN.{length, drop}
-use Rattle.steps.specs.declared.state.State.{State}
 use Rattle.steps.specs.Into.{Out, restAt}
 use Rattle.steps.proofs.Bytes.{Falls, Rests, Within, within, stopped, rest-rest, skip-rests, comments-rests}
-use Rattle.parse_definitions.specs.Into.{definitionIn}
 use Rattle.parse_definitions.proofs.Bytes.{definition-falls}
 use Rattle.reader.specs.Into.{inRest, restIn, betweenIn}
 

@@ -9,12 +9,10 @@
 use mathlib.Core.Path.{_≡_, refl, sym, ap, _∙_}
 use mathlib.Core.Bool.{Bool, true, false, cond, false≢true}
 use mathlib.Core.List.{List, []}
-use Prim.Native.Nat.{ℕ, zero, suc, _+_, _-_, _<_, _≤_}
+use Prim.Native.Nat.{ℕ, zero, suc, _+_, _<_, _≤_}
 use native.Mathlib.Omega.{arith}
 use lib.Dec.{eqb, ltb}
-use lib.ListN.{length}
 use borrow.Author.Tests.{eqb-true}
-use Rattle.token.specs.Code.{code}
 use Rattle.lexer.specs.declared.location.Lexer.{Lexer}
 use Rattle.lexer.specs.declared.location.LOC.{LOC}
 use Rattle.lexer.specs.declared.location.Span.{Span}
@@ -26,7 +24,7 @@ use Rattle.lexer.proofs.NextLaws.{next-inside}
 use Rattle.parser.proofs.KindLaws.{code-some}
 use Rattle.steps.specs.declared.state.State.{State}
 use Rattle.steps.specs.declared.state.Parsed.{Parsed}
-use Rattle.steps.specs.declared.state.Parsed.the-variants.{On, Refused}
+use Rattle.steps.specs.declared.state.Parsed.the-variants.{On}
 use Rattle.steps.specs.Into.{
   Out,
   done,
@@ -43,7 +41,6 @@ use Rattle.steps.specs.Into.{
   lookAt,
   aheadOf,
   advanced,
-  advanceIn,
   refused,
   takeIn,
   expectIn,

@@ -10,7 +10,7 @@
 use mathlib.Core.Path.{_≡_, refl, sym, ap, _∙_}
 use mathlib.Core.Bool.{Bool, cond}
 use mathlib.Core.List.{List}
-use Prim.Native.Nat.{ℕ, zero, suc, _<_, _≤_}
+use Prim.Native.Nat.{ℕ, zero, suc, _<_}
 use native.Mathlib.Omega.{arith}
 use lib.ListN.{length}
 use borrow.Author.Tests.{eq-eqb, ne-eqb}
@@ -18,7 +18,7 @@ use Rattle.steps.specs.declared.state.State.{State}
 use Rattle.steps.specs.declared.state.Parsed.{Parsed}
 use Rattle.steps.specs.declared.state.Parsed.the-variants.{On}
 use Rattle.steps.specs.Into.{M, Out, after, bytesLeft, closesAt, done, loopIn, passed, refuseIn, shows, skipIn, turnsIn}
-use Rattle.steps.proofs.Bytes.{Falls, Rests, Within, weak-w, after-w, cond-w, after-same, refused-w, rested, fell}
+use Rattle.steps.proofs.Bytes.{Falls, Rests, weak-w, after-w, cond-w, after-same, refused-w, rested, fell}
 
 pub record Looping (text : List ℕ) (closing : State → Bool) (skips shut member : M) (t₀ u₀ : List ℕ) (st₀ : State) (t u : List ℕ) (st : State) : Type 0 where
   pub goes : loopIn text closing skips shut member st₀ t₀ u₀ ≡ loopIn text closing skips shut member st t u

@@ -21,34 +21,34 @@ loop-holds : tie.Need-loop-holds Inv-loop μ-loop
 loop-holds c = loop-starts _ _ _ _ _ _ _ _
 
 between-requires : tie.Need-between-requires Inv-loop μ-loop
-between-requires c κs = @pre
+between-requires c κs = c .before .before .before .before .before .pre
 
 same-length : tie.Need-same-length Inv-loop μ-loop
-same-length c = @loop .inv .long
+same-length c = c .before .before .before .before .before .before .before .loop .inv .long
 
 same-length-2 : tie.Need-same-length-2 Inv-loop μ-loop
-same-length-2 c = @between .kept .1 .1 .1 .1 .0 ∙ @loop .inv .wide
+same-length-2 c = c .before .before .before .before .before .between .kept .1 .1 .1 .1 .0 ∙ c .before .before .before .before .before .before .before .loop .inv .wide
 
 returns : tie.Need-returns Inv-loop μ-loop
-returns c = last _ _ _ _ _ (closes _ _ _ _ _ (turn _ _ _ _ _ (between-rests _) (rest-falls _) _ _ _ _ _ _ _ (document-is _ _ _ _ ∙ @loop .inv .goes) (@between .ensures _)) (@if1 .taken)) (@over .ensures _ _)
+returns c = last _ _ _ _ _ (closes _ _ _ _ _ (turn _ _ _ _ _ (between-rests _) (rest-falls _) _ _ _ _ _ _ _ (document-is _ _ _ _ ∙ c .before .before .before .before .before .before .before .loop .inv .goes) (c .before .before .before .before .before .between .ensures _)) (c .before .if1 .taken)) (c .over .ensures _ _)
 
 parse-in-rest-requires : tie.Need-parse-in-rest-requires Inv-loop μ-loop
-parse-in-rest-requires c κs = @pre
+parse-in-rest-requires c κs = c .before .before .before .before .before .before .before .before .before .before .before .before .pre
 
 same-length-3 : tie.Need-same-length-3 Inv-loop μ-loop
-same-length-3 c = @parse-in-rest .kept .1 .1 .1 .1 .0 ∙ @loop .inv .long
+same-length-3 c = c .before .before .before .before .before .before .parse-in-rest .kept .1 .1 .1 .1 .0 ∙ c .before .before .before .before .before .before .before .before .before .before .before .before .before .before .before .loop .inv .long
 
 same-length-4 : tie.Need-same-length-4 Inv-loop μ-loop
-same-length-4 c = @parse-in-rest .kept .1 .1 .1 .1 .1 .0 ∙ @between .kept .1 .1 .1 .1 .0 ∙ @loop .inv .wide
+same-length-4 c = c .before .before .before .before .before .before .parse-in-rest .kept .1 .1 .1 .1 .1 .0 ∙ c .before .before .before .before .before .before .before .before .before .before .before .before .before .between .kept .1 .1 .1 .1 .0 ∙ c .before .before .before .before .before .before .before .before .before .before .before .before .before .before .before .loop .inv .wide
 
 returns-2 : tie.Need-returns-2 Inv-loop μ-loop
-returns-2 c = off _ _ _ (stays _ _ _ _ _ (turn _ _ _ _ _ (between-rests _) (rest-falls _) _ _ _ _ _ _ _ (document-is _ _ _ _ ∙ @loop .inv .goes) (@between .ensures _)) (@if1 .left)) _ _ _ _ _ (@parse-in-rest .ensures) (@enum-told .given .1) _ _
+returns-2 c = off _ _ _ (stays _ _ _ _ _ (turn _ _ _ _ _ (between-rests _) (rest-falls _) _ _ _ _ _ _ _ (document-is _ _ _ _ ∙ c .before .before .before .before .before .before .before .before .before .before .before .before .before .before .before .loop .inv .goes) (c .before .before .before .before .before .before .before .before .before .before .before .before .before .between .ensures _)) (c .before .before .before .before .before .before .before .before .before .if1 .left)) _ _ _ _ _ (c .before .before .before .before .before .before .parse-in-rest .ensures) (c .enum-told .given .1) _ _
 
 loop-less : tie.Need-loop-less Inv-loop μ-loop
-loop-less c = turn-falls _ _ _ (between-rests _) (rest-falls _) _ _ _ _ _ _ _ _ _ _ (@between .ensures _) (@parse-in-rest .ensures) (@read .given .1)
+loop-less c = turn-falls _ _ _ (between-rests _) (rest-falls _) _ _ _ _ _ _ _ _ _ _ (c .before .before .before .before .before .before .before .before .before .before .before .before .before .before .between .ensures _) (c .before .before .before .before .before .before .before .parse-in-rest .ensures) (c .before .read .given .1)
 
 loop-again : tie.Need-loop-again Inv-loop μ-loop
-loop-again c = record { goes = on _ _ _ (stays _ _ _ _ _ (turn _ _ _ _ _ (between-rests _) (rest-falls _) _ _ _ _ _ _ _ (@loop .inv .goes) (@between .ensures _)) (@if1 .left)) _ _ _ _ (@parse-in-rest .ensures) (@read .given .1); long = @parse-in-rest .kept .1 .1 .1 .1 .0 ∙ @loop .inv .long; wide = @parse-in-rest .kept .1 .1 .1 .1 .1 .0 ∙ @between .kept .1 .1 .1 .1 .0 ∙ @loop .inv .wide }
+loop-again c = record { goes = on _ _ _ (stays _ _ _ _ _ (turn _ _ _ _ _ (between-rests _) (rest-falls _) _ _ _ _ _ _ _ (c .before .before .before .before .before .before .before .before .before .before .before .before .before .before .before .before .loop .inv .goes) (c .before .before .before .before .before .before .before .before .before .before .before .before .before .before .between .ensures _)) (c .before .before .before .before .before .before .before .before .before .before .if1 .left)) _ _ _ _ (c .before .before .before .before .before .before .before .parse-in-rest .ensures) (c .before .read .given .1); long = c .before .before .before .before .before .before .before .parse-in-rest .kept .1 .1 .1 .1 .0 ∙ c .before .before .before .before .before .before .before .before .before .before .before .before .before .before .before .before .loop .inv .long; wide = c .before .before .before .before .before .before .before .parse-in-rest .kept .1 .1 .1 .1 .1 .0 ∙ c .before .before .before .before .before .before .before .before .before .before .before .before .before .before .between .kept .1 .1 .1 .1 .0 ∙ c .before .before .before .before .before .before .before .before .before .before .before .before .before .before .before .before .loop .inv .wide }
 
 pub parse-document-spec : {M : Type 1} → statement M
 parse-document-spec =
