@@ -145,8 +145,8 @@ takeIn text st t u = cond (eqb (st .kind) 255) (refused 3 st) (done (advanced te
 unfoldable pub expectIn : List ℕ → ℕ → ℕ → M
 expectIn text k e st t u = cond (eqb (st .kind) k) (takeIn text st t u) (refused e st)
 
--- the bytes behind the lexer, and one for the token ahead; none are left where no token is ahead. What takes a token makes them fall, so no loop counts its
--- turns: as many as there are bytes left, and one more, are enough (proofs/Bytes and LoopForms, by which each loop below is its first turn and then itself)
+-- the bytes behind the lexer, and one for the token ahead; none where no token is ahead. What takes a token makes them fall, so a loop has at most
+-- one turn more than bytes are left, and each below is its first turn and then itself (passed-is and comments-is in proofs/Bytes, loop-is in LoopForms)
 unfoldable pub bytesLeft : List ℕ → State → ℕ
 bytesLeft text st = cond (eqb (st .kind) 255) 0 (suc (length text - st .lexer .at))
 
