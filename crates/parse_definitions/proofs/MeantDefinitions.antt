@@ -98,6 +98,8 @@ use Rattle.steps.proofs.Seen.{lastOf, waitingOf, Frame, At, fewer, regrown, Mea
 use Rattle.steps.proofs.StepLaws.{tested, Wanted, step-m, one-m, expect-m, refuse-m, here-in, taken-in, emptied}
 use Rattle.steps.proofs.SkipLaws.{trivia-m}
 use Rattle.steps.proofs.NodeLaws.{inside, own-at, finish-at}
+use Rattle.parse_fields.proofs.Bytes.{field-falls}
+use Rattle.parse_members.proofs.Bytes.{function-falls, member-falls}
 use Rattle.parse_fields.proofs.MeantFields.{token-m, noded, owning, name-m, annotations-m, field-m, members-m}
 use Rattle.parse_values.proofs.MeantTypes.{type-m}
 use Rattle.parse_values.proofs.MeantValues.{value-m}
@@ -207,7 +209,7 @@ module _ (text : List ℕ) (short : length text ≤ 65536) where
         grouped _ _ _
         (bind-m (name-m text short 15 (h₁ .at)) λ n st₂ t₂ u₂ s₂ h₂.
         grouped _ _ _
-        (bind-m (members-m text short memberTree T.LeftBrace T.RightBrace (memberIn text (st .next) (st .next)) parseEnumMember
+        (bind-m (members-m text short memberTree T.LeftBrace T.RightBrace (memberIn text (st .next) (st .next)) (member-falls text (st .next) (st .next)) parseEnumMember
         (λ fr f st t u s h. member-m text short h) (h₂ .at)) λ xs st₃ t₃ u₃ s₃ h₃.
         bind-m (annotations-m text short h₃) λ a st₄ t₄ u₄ s₄ h₄. here-in s₄ _
         (went (fewer (omega arith)
@@ -222,7 +224,7 @@ module _ (text : List ℕ) (short : length text ≤ 65536) where
         grouped _ _ _
         (bind-m (name-m text short 16 (h₁ .at)) λ n st₂ t₂ u₂ s₂ h₂.
         grouped _ _ _
-        (bind-m (members-m text short (fieldTree 0) T.LeftBrace T.RightBrace (fieldIn text 0 (st .next) (st .next)) parseField
+        (bind-m (members-m text short (fieldTree 0) T.LeftBrace T.RightBrace (fieldIn text 0 (st .next) (st .next)) (field-falls text 0 (st .next) (st .next)) parseField
         (λ fr f st t u s h. field-m text short 0 (omega arith) h) (h₂ .at)) λ xs st₃ t₃ u₃ s₃ h₃.
         bind-m (annotations-m text short h₃) λ a st₄ t₄ u₄ s₄ h₄. here-in s₄ _
         (went (fewer (omega arith)
@@ -249,7 +251,7 @@ module _ (text : List ℕ) (short : length text ≤ 65536) where
       (bind-m (name-m text short 17 (h₁ .at)) λ n st₂ t₂ u₂ s₂ h₂.
       bind-m (extends-m (h₂ .at)) λ x st₃ t₃ u₃ s₃ h₃.
       grouped _ _ _
-      (bind-m (members-m text short functionTree T.LeftBrace T.RightBrace (functionIn text (st .next) (st .next)) parseFunction
+      (bind-m (members-m text short functionTree T.LeftBrace T.RightBrace (functionIn text (st .next) (st .next)) (function-falls text (st .next) (st .next)) parseFunction
       (λ fr f st t u s h. function-m text short h) h₃) λ xs st₄ t₄ u₄ s₄ h₄.
       bind-m (annotations-m text short h₄) λ a st₅ t₅ u₅ s₅ h₅. here-in s₅ _
       (went (fewer (omega arith)

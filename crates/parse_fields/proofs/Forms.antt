@@ -5,7 +5,7 @@ use mathlib.Core.List.{List}
 use Prim.Native.Nat.{ℕ}
 use lib.Dec.{eqb}
 use Rattle.steps.specs.declared.state.State.{State}
-use Rattle.steps.specs.Into.{isSeparator, loopIn, closesAt, takeIn, most, M, _⨟_, advanced, after, done, expectIn, isIdAt, leafIn, nodeIn, opened, ownIn, refused, startAt, sum}
+use Rattle.steps.specs.Into.{isSeparator, loopIn, closesAt, takeIn, M, _⨟_, advanced, after, done, expectIn, isIdAt, leafIn, nodeIn, opened, ownIn, refused, startAt, sum}
 use Rattle.parse_values.specs.Into.{typeIn, valueIn}
 use Rattle.parse_fields.specs.Into.{skipMemberIn, nesting, annotationIn, annotationListIn, annotationsIn, defaultIn, fieldHeadIn, fieldIdIn, fieldIn, fieldNameIn, fieldTailIn, fieldsIn, isFieldName, membersIn, nameIn, oneSeparatorIn, requiredOf, skipRequired, tokenIn}
 
@@ -65,8 +65,8 @@ unfolding fieldsIn
 fields-is text o k f b p st t u = refl
 
 pub members-is : (text : List ℕ) (o k : ℕ) (member : M) (st : State) (t u : List ℕ) → membersIn text o k member st t u ≡
-    after (expectIn text o 2 st t u) (loopIn (closesAt k) (skipMemberIn text) (takeIn text) member 65537)
-unfolding membersIn most
+    after (expectIn text o 2 st t u) (loopIn text (closesAt k) (skipMemberIn text) (takeIn text) member)
+unfolding membersIn
 members-is text o k member st t u = refl
 
 pub one-separator-is : (text : List ℕ) (st : State) (t u : List ℕ) → oneSeparatorIn text st t u ≡ cond (isSeparator (st .kind)) (done (advanced text st) t u) (done st t u)

@@ -43,7 +43,7 @@ use Rattle.ast.specs.Tree.{
   fieldTree,
 }
 use Rattle.steps.specs.declared.state.State.{State}
-use Rattle.parser.specs.Steps.{kind, bytes, place, span, St, Res, P, test, peek, when, next, want, separators, many}
+use Rattle.parser.specs.Steps.{kind, bytes, place, span, St, Res, P, test, peek, when, next, want, separators}
 use Rattle.parser.specs.Definitions as D
 use Rattle.parser.specs.Definitions.{
   isId,
@@ -74,7 +74,6 @@ use Rattle.steps.specs.Into.{
   leafIn,
   putNode,
   nodeIn,
-  most,
   takeIn,
   parents,
   owns,
@@ -126,6 +125,8 @@ use Rattle.steps.proofs.StepLaws.{
   taken-in,
   emptied,
 }
+use Rattle.steps.proofs.Bytes.{Falls, skip-rests}
+use Rattle.parse_fields.proofs.Bytes.{annotation-falls, skip-member-rests}
 use Rattle.steps.proofs.NodeLaws.{open-at, own-at, finish-at, leaf-at, leaf-m, Turn, turn-after, turn-last, closed-turn, loop-m}
 use Rattle.parse_values.proofs.MeantTypes.{type-m}
 use Rattle.parse_values.proofs.MeantValues.{literal-tree, value-m}
@@ -224,15 +225,15 @@ module _ (text : List ℕ) (short : length text ≤ 65536) where
 
   pub annotations-m : {i b p : ℕ} {fr : Frame} {f : Forest} {st : State} {t u : List ℕ} {s : St} → At text (suc i) b p fr f st t u s
       → Meant (λ a. At text (suc i) b p fr (f ⊕ annotationsTree a bare)) (annotationsIn text b p st t u) (parseAnnotations s)
-  unfolding annotationsIn parseAnnotations annotationListIn nodeIn code many most annotationsTree inner single each
+  unfolding annotationsIn parseAnnotations annotationListIn nodeIn code annotationsTree inner single each
   annotations-m {b = b} {p = p} {f = f} {st = st} {s = s} h =
       one-m text short T.LeftParen _ _ s h
       (λ e. here-in s _
       (here-m {k = annotationListIn text b (st .next) ⨟ nodeIn (st .next) 14 0 (st .last .start) b p}
       (step-m text short (T.LeftParen ∷ []) s e (open-at h)) λ x st₁ t₁ u₁ s₁ h₁.
-      bind-m (loop-m annotationTree (λ xs. each annotationTree xs bare) (closesAt 41) (skipIn text false) (takeIn text) (annotationIn text b (st .next))
+      bind-m (loop-m annotationTree (λ xs. each annotationTree xs bare) (closesAt 41) (skipIn text false) (takeIn text) (annotationIn text b (st .next)) (skip-rests text false) (annotation-falls text b (st .next))
       [] _∷_ annotationsEnd parseAnnotation refl (λ a x. refl)
-      (λ f st t u s h. annotations-turn h) (λ f st t u s h. annotation-m h) 65537 bare _ _ _ _ (h₁ .at)) λ xs st₂ t₂ u₂ s₂ h₂. here-in s₂ _
+      (λ f st t u s h. annotations-turn h) (λ f st t u s h. annotation-m h) short bare _ _ _ _ (h₁ .at)) λ xs st₂ t₂ u₂ s₂ h₂. here-in s₂ _
       (went (fewer (omega arith) (finish-at 14 0 (lastOf s) (st .last .start) [] [] h h₂ (ap (λ (l : LOC). l .start) (h .last)))))))
       (λ e. went (regrown (sym (plus-bare f)) h))
 
@@ -327,11 +328,11 @@ module _ (text : List ℕ) (short : length text ≤ 65536) where
   members-turn k h =
       turn-after (separators-m text short _ h) λ a st₁ t₁ u₁ s₁ h₁. turn-last (comments-m text short _ h₁) λ a st₂ t₂ u₂ s₂ h₂. closed-turn text short k s₂ h₂
 
-  pub members-m : {A : Type 0} (G : A → Tree) (l r : Token) (m : M) (q : P A) {i b p : ℕ} → Means text i b p (λ a. single (G a)) m q
+  pub members-m : {A : Type 0} (G : A → Tree) (l r : Token) (m : M) → Falls text m → (q : P A) {i b p : ℕ} → Means text i b p (λ a. single (G a)) m q
       → {fr : Frame} {f : Forest} {st : State} {t u : List ℕ} {s : St} → At text i b p fr f st t u s
       → Meant (λ xs. At text i b p fr (f ⊕ each G xs bare)) (membersIn text (code l) (code r) m st t u) (parseMembers l r q s)
-  unfolding membersIn parseMembers many most each
-  members-m G l r m q reads {fr = fr} {f = f} h =
+  unfolding membersIn parseMembers each
+  members-m G l r m falls q reads {fr = fr} {f = f} h =
       bind-m (expect-m text short l _ 2 h) λ x st₁ t₁ u₁ s₁ h₁.
-      loop-m G (λ xs. each G xs bare) (closesAt (code r)) (skipMemberIn text) (takeIn text) m [] _∷_ (membersEnd r) q refl (λ a x. refl)
-      (λ f st t u s h. members-turn r h) (reads fr) 65537 f st₁ t₁ u₁ s₁ (less (less (h₁ .at)))
+      loop-m G (λ xs. each G xs bare) (closesAt (code r)) (skipMemberIn text) (takeIn text) m (skip-member-rests text) falls [] _∷_ (membersEnd r) q refl (λ a x. refl)
+      (λ f st t u s h. members-turn r h) (reads fr) short f st₁ t₁ u₁ s₁ (less (less (h₁ .at)))

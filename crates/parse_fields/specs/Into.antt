@@ -6,7 +6,7 @@ use mathlib.Core.List.{List}
 use Prim.Native.Nat.{ℕ}
 use lib.Dec.{eqb, ltb, leb}
 use Rattle.steps.specs.declared.state.State.{State}
-use Rattle.steps.specs.Into.{M, after, _⨟_, sum, opened, leafIn, nodeIn, advanced, refused, startAt, takeIn, expectIn, most, isSeparator, skipIn, skipCommentsIn, ownIn, loopIn, closesAt, isIdAt, done}
+use Rattle.steps.specs.Into.{M, after, _⨟_, sum, opened, leafIn, nodeIn, advanced, refused, startAt, takeIn, expectIn, isSeparator, skipIn, skipCommentsIn, ownIn, loopIn, closesAt, isIdAt, done}
 use Rattle.parse_values.specs.Into.{typeIn, valueIn}
 
 -- ---- tokens and names
@@ -28,7 +28,7 @@ annotationIn text b p st t u =
     (expectIn text 45 2 ⨟ (tokenIn text 29 2 23 b (st .next) ⨟ (nodeIn (st .next) 15 0 (st .loc .start) b p ⨟ oneSeparatorIn text)))
 
 unfoldable pub annotationListIn : List ℕ → ℕ → ℕ → M
-annotationListIn text b p = loopIn (closesAt 41) (skipIn text false) (takeIn text) (annotationIn text b p) most
+annotationListIn text b p = loopIn text (closesAt 41) (skipIn text false) (takeIn text) (annotationIn text b p)
 
 unfoldable pub annotationsIn : List ℕ → ℕ → ℕ → M
 annotationsIn text b p st t u =
@@ -84,7 +84,7 @@ skipMemberIn text = skipIn text true ⨟ skipCommentsIn text false
 
 -- members from one bracket to another
 unfoldable pub membersIn : List ℕ → ℕ → ℕ → M → M
-membersIn text o k member = expectIn text o 2 ⨟ loopIn (closesAt k) (skipMemberIn text) (takeIn text) member most
+membersIn text o k member = expectIn text o 2 ⨟ loopIn text (closesAt k) (skipMemberIn text) (takeIn text) member
 
 unfoldable pub fieldsIn : List ℕ → ℕ → ℕ → ℕ → ℕ → ℕ → M
 fieldsIn text o k f b p = membersIn text o k (fieldIn text f b p)

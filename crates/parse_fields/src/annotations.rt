@@ -1,7 +1,6 @@
 // Annotations.
 ghost use Rattle.steps.specs.Into.{Lent, Quiet};
 ghost use Rattle.parse_fields.specs.Into.{annotationIn, annotationListIn, annotationsIn};
-use steps::state::MOST;
 use steps::state::Parsed;
 use steps::state::State;
 use steps::table;
@@ -55,8 +54,7 @@ fn parse_annotation_list(
     ensures { λ r. ⌜ Quiet (annotationListIn (now (text .entry)) base parent) st r (now (rest .entry)) (now (rest .exit)) ⌝ }
 {
     let mut state = st;
-    let mut left = MOST;
-    while 0 < left {
+    loop {
         let found = steps::skip(class, trie, text, state, false);
         if found.kind == 41 {
             return steps::take(class, trie, text, found);
@@ -66,9 +64,7 @@ fn parse_annotation_list(
             return read;
         };
         state = behind;
-        left -= 1;
     }
-    steps::refuse(state, 3)
 }
 
 // parse_annotations, if there are any: they start at the token before the bracket.

@@ -7,7 +7,6 @@ use crate::annotations;
 use parse_values::types;
 use parse_values::values;
 use steps::id;
-use steps::state::MOST;
 use steps::state::Parsed;
 use steps::state::State;
 use steps::table;
@@ -231,8 +230,7 @@ pub fn parse_fields(
         return opened;
     };
     let mut state = inside;
-    let mut left = MOST;
-    while 0 < left {
+    loop {
         let over = steps::skip(class, trie, text, state, true);
         let found = steps::skip_comments(class, trie, text, over, false, comments);
         if found.kind == closer {
@@ -243,7 +241,5 @@ pub fn parse_fields(
             return read;
         };
         state = behind;
-        left -= 1;
     }
-    steps::refuse(state, 3)
 }

@@ -63,6 +63,7 @@ use Rattle.steps.proofs.Seen.{small-sum, lastOf, waitingOf, Frame, At, less, fe
 use Rattle.steps.proofs.StepLaws.{tested, step-m, one-m, here-in, taken-in}
 use Rattle.steps.proofs.SkipLaws.{trivia-m}
 use Rattle.steps.proofs.NodeLaws.{own-at, finish-at, leaf-m}
+use Rattle.parse_fields.proofs.Bytes.{field-falls}
 use Rattle.parse_fields.proofs.MeantFields.{token-m, owning, literal-of, name-m, annotations-m, field-m, members-m}
 use Rattle.parse_values.proofs.MeantTypes.{common-tree, type-m}
 
@@ -153,7 +154,7 @@ module _ (text : List ℕ) (short : length text ≤ 65536) where
       → Meant (λ xs. At text (suc i) b p fr (f ⊕ each (fieldTree fl) xs bare)) (fieldsIn text 40 41 fl b p st t u) (parseParameters s)
   unfolding fieldsIn parseParameters code
   parameters-m fl small {b = b} {p = p} h =
-      members-m text short (fieldTree fl) T.LeftParen T.RightParen (fieldIn text fl b p) parseField (λ fr f st t u s h. field-m text short fl small h) h
+      members-m text short (fieldTree fl) T.LeftParen T.RightParen (fieldIn text fl b p) (field-falls text fl b p) parseField (λ fr f st t u s h. field-m text short fl small h) h
 
   -- behind what may be there, with its flag
   record Flagged {A : Type 0} (G : A → Forest) (flag : A → ℕ) (k w v i b p : ℕ) (fr : Frame) (f : Forest) (a : A) (st : State) (t u : List ℕ) (s : St) : Type 0 where

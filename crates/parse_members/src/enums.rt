@@ -2,7 +2,6 @@
 ghost use Rattle.steps.specs.Into.{Lent, Reads, Quiet};
 ghost use Rattle.parse_members.specs.Into.{initializerIn, memberIn, enumMembersIn};
 use parse_fields::annotations;
-use steps::state::MOST;
 use steps::state::Parsed;
 use steps::state::State;
 use steps::table;
@@ -82,8 +81,7 @@ pub fn parse_enum_members(
         return opened;
     };
     let mut state = inside;
-    let mut left = MOST;
-    while 0 < left {
+    loop {
         let over = steps::skip(class, trie, text, state, true);
         let found = steps::skip_comments(class, trie, text, over, false, comments);
         if found.kind == 35 {
@@ -94,7 +92,5 @@ pub fn parse_enum_members(
             return read;
         };
         state = behind;
-        left -= 1;
     }
-    steps::refuse(state, 3)
 }

@@ -6,7 +6,6 @@ use parse_fields::NESTING;
 use parse_fields::annotations;
 use parse_fields::fields;
 use parse_values::types;
-use steps::state::MOST;
 use steps::state::Parsed;
 use steps::state::State;
 use steps::table;
@@ -190,8 +189,7 @@ pub fn parse_functions(
         return opened;
     };
     let mut state = inside;
-    let mut left = MOST;
-    while 0 < left {
+    loop {
         let over = steps::skip(class, trie, text, state, true);
         let found = steps::skip_comments(class, trie, text, over, false, comments);
         if found.kind == 35 {
@@ -202,7 +200,5 @@ pub fn parse_functions(
             return read;
         };
         state = behind;
-        left -= 1;
     }
-    steps::refuse(state, 3)
 }

@@ -1,3 +1,4 @@
+pub mod Bytes
 pub mod ContainerForms
 pub mod ListForms
 pub mod KindTests

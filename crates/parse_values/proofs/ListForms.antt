@@ -1,23 +1,30 @@
--- What a turn of each loop skips, by the calls that returned the state, and each loop before its first turn (steps/proofs/LoopForms takes the turns). Assumes nothing.
-use mathlib.Core.Path.{_≡_, refl, ap, _∙_}
-use mathlib.Core.Bool.{true, false}
-use mathlib.Core.List.{List}
-use Prim.Native.Nat.{ℕ}
+-- What a turn of each loop skips, by the calls that returned the state, and a turn of each loop (steps/proofs/LoopForms).
+--     both-left    the bytes left behind what is skipped
+use mathlib.Core.Path.{_≡_, ap, _∙_}
+use mathlib.Core.Bool.{true, false, cond}
+use mathlib.Core.List.{List, []}
+use Prim.Native.Nat.{ℕ, _≤_}
 use Rattle.steps.specs.declared.state.State.{State}
-use Rattle.steps.specs.Into.{M, after, closesAt, done, loopIn, most, skipFrom, skipIn, takeIn}
+use Rattle.steps.specs.Into.{M, Out, after, bytesLeft, closesAt, done, passed, skipIn, takeIn}
 use Rattle.parse_values.specs.Into.{elementsIn, propertiesIn, skipBothIn}
+use Rattle.steps.proofs.Bytes.{Falls, rested}
+use Rattle.steps.proofs.LoopForms.{turn}
+use Rattle.parse_values.proofs.Bytes.{both-rests}
 
-pub skip-both : (text : List ℕ) (st x y : State) (t u : List ℕ) → x ≡ skipFrom text true most st → y ≡ skipFrom text false most x →
-    done y t u ≡ skipBothIn text st t u
+pub skip-both : (text : List ℕ) (st x y : State) (t u : List ℕ) → x ≡ passed text true st → y ≡ passed text false x → done y t u ≡ skipBothIn text st t u
 unfolding skipBothIn skipIn after
-skip-both text st x y t u h k = ap (λ (z : State). done z t u) (k ∙ ap (skipFrom text false most) h)
+skip-both text st x y t u h k = ap (λ (z : State). done z t u) (k ∙ ap (passed text false) h)
 
-pub elements-is : (text : List ℕ) (value : M) (st : State) (t u : List ℕ) → elementsIn text value st t u ≡
-    loopIn (closesAt 37) (skipBothIn text) (takeIn text) value 65537 st t u
-unfolding elementsIn most
-elements-is text value st t u = refl
+pub both-left : (text : List ℕ) (st x y : State) → x ≡ passed text true st → y ≡ passed text false x → bytesLeft text y ≤ bytesLeft text st
+both-left text st x y h k = rested (skipBothIn text) (both-rests text) st [] [] (skip-both text st x y [] [] h k)
 
-pub properties-is : (text : List ℕ) (property : M) (st : State) (t u : List ℕ) → propertiesIn text property st t u ≡
-    loopIn (closesAt 35) (skipBothIn text) (takeIn text) property 65537 st t u
-unfolding propertiesIn most
-properties-is text property st t u = refl
+module _ (text : List ℕ) (member : M) (falls : Falls text member) (W : Out) (st x y : State) (t u : List ℕ) where
+  pub elements-turn : W ≡ elementsIn text member st t u → x ≡ passed text true st → y ≡ passed text false x
+      → W ≡ cond (closesAt 37 y) (takeIn text y t u) (after (member y t u) (elementsIn text member))
+  unfolding elementsIn
+  elements-turn w h k = turn text (closesAt 37) (skipBothIn text) (takeIn text) member (both-rests text) falls W st t u y t u w (skip-both text st x y t u h k)
+
+  pub properties-turn : W ≡ propertiesIn text member st t u → x ≡ passed text true st → y ≡ passed text false x
+      → W ≡ cond (closesAt 35 y) (takeIn text y t u) (after (member y t u) (propertiesIn text member))
+  unfolding propertiesIn
+  properties-turn w h k = turn text (closesAt 35) (skipBothIn text) (takeIn text) member (both-rests text) falls W st t u y t u w (skip-both text st x y t u h k)

@@ -6,7 +6,7 @@ use mathlib.Core.List.{List}
 use Prim.Native.Nat.{ℕ, zero, suc}
 use lib.Dec.{eqb, ltb, leb}
 use Rattle.steps.specs.declared.state.State.{State}
-use Rattle.steps.specs.Into.{M, after, _⨟_, opened, leafIn, nodeIn, refused, startAt, takeIn, expectIn, most, skipIn, loopIn, closesAt}
+use Rattle.steps.specs.Into.{M, after, _⨟_, opened, leafIn, nodeIn, refused, startAt, takeIn, expectIn, skipIn, loopIn, closesAt}
 
 -- ---- types
 
@@ -46,7 +46,7 @@ unfoldable pub skipBothIn : List ℕ → M
 skipBothIn text = skipIn text true ⨟ skipIn text false
 
 unfoldable pub elementsIn : List ℕ → M → M
-elementsIn text value = loopIn (closesAt 37) (skipBothIn text) (takeIn text) value most
+elementsIn text value = loopIn text (closesAt 37) (skipBothIn text) (takeIn text) value
 
 unfoldable pub listIn : List ℕ → (ℕ → M) → ℕ → ℕ → M
 listIn text value b p st t u = after (elementsIn text (value (st .next)) (opened st) t u) (nodeIn (st .next) 29 0 (st .last .start) b p)
@@ -57,7 +57,7 @@ propertyIn text value b p st t u =
     (expectIn text 43 2 ⨟ (value (st .next) ⨟ nodeIn (st .next) 31 0 (startAt st) b p))
 
 unfoldable pub propertiesIn : List ℕ → M → M
-propertiesIn text property = loopIn (closesAt 35) (skipBothIn text) (takeIn text) property most
+propertiesIn text property = loopIn text (closesAt 35) (skipBothIn text) (takeIn text) property
 
 unfoldable pub mapIn : List ℕ → (ℕ → M) → ℕ → ℕ → M
 mapIn text value b p st t u =

@@ -2,7 +2,6 @@
 ghost use mathlib.Core.Path.{_≡_};
 ghost use Rattle.steps.specs.Into.{Lent, Quiet};
 ghost use Rattle.parse_values.specs.Into.{leafValue, elementsIn, listIn, propertyIn, propertiesIn, mapIn, isOpener, valueIn};
-use steps::state::MOST;
 use steps::state::Parsed;
 use steps::state::State;
 use steps::table;
@@ -113,8 +112,7 @@ fn parse_elements(
     ensures { λ r. ⌜ Quiet (elementsIn (now (text .entry)) (valueIn (now (text .entry)) depth base parent)) st r (now (rest .entry)) (now (rest .exit)) ⌝ }
 {
     let mut state = st;
-    let mut left = MOST;
-    while 0 < left {
+    loop {
         let over = steps::skip(class, trie, text, state, true);
         let found = steps::skip(class, trie, text, over, false);
         if found.kind == 37 {
@@ -125,9 +123,7 @@ fn parse_elements(
             return read;
         };
         state = behind;
-        left -= 1;
     }
-    steps::refuse(state, 3)
 }
 
 // parse_map_value: behind the brace.
@@ -170,21 +166,18 @@ fn parse_properties(
     ensures { λ r. ⌜ Quiet (propertiesIn (now (text .entry)) (propertyIn (now (text .entry)) (λ q. valueIn (now (text .entry)) depth base q) base parent)) st r (now (rest .entry)) (now (rest .exit)) ⌝ }
 {
     let mut state = st;
-    let mut left = MOST;
-    while 0 < left {
+    loop {
         let over = steps::skip(class, trie, text, state, true);
         let found = steps::skip(class, trie, text, over, false);
         if found.kind == 35 {
             return steps::take(class, trie, text, found);
         }
         let read = parse_property(class, trie, text, found, depth, base, parent, rest);
-        let Parsed::On(behind) = read else {
+        let Parsed::On(past) = read else {
             return read;
         };
-        state = behind;
-        left -= 1;
+        state = past;
     }
-    steps::refuse(state, 3)
 }
 
 // A property: two values with a colon between.

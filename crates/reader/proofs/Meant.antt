@@ -39,10 +39,10 @@ use Rattle.ast.proofs.Counts.{
   cleared-same,
 }
 use Rattle.steps.specs.declared.state.State.{State}
-use Rattle.parser.specs.Steps.{St, pos, Res, test, fail, many}
+use Rattle.parser.specs.Steps.{St, pos, Res, test, fail}
 use Rattle.parser.specs.Definitions.{parseDefinition, over, documentEnd, parseDocument}
 use Rattle.parser.specs.Read.{parsed, endRule, answered, outcomeBy, outcome, fitted, answer, left, rowsBy, Reading, reading, said}
-use Rattle.steps.specs.Into.{Out, done, stop, refused, most, closesAt, restAt, wiped}
+use Rattle.steps.specs.Into.{Out, done, stop, refused, closesAt, restAt, wiped}
 use Rattle.reader.specs.Into.{inRest, restIn, overIn, betweenIn, documentIn, beginning, refusing, ended, refusingAt, fits, judged, unscanned, settled, parsing}
 use Rattle.reader.proofs.Whole.{read-unknown}
 use Rattle.steps.proofs.TableLaws.{lay, lay-append, length-lay, lay-rest, wiped-lay}
@@ -51,6 +51,7 @@ use Rattle.parser.proofs.Paid.{tokens-bound}
 use Rattle.steps.proofs.Seen.{advance-ahead, moved, waitingOf, Frame, At, Meant, went, halted}
 use Rattle.steps.proofs.StepLaws.{none-ahead, some-ahead, sound-ahead}
 use Rattle.steps.proofs.SkipLaws.{separators-m, comments-m}
+use Rattle.reader.proofs.Bytes.{between-rests, rest-falls}
 use Rattle.steps.proofs.NodeLaws.{rowsAt, rows-at, Turn, shuts, refuses, goes, turn-after, turn-last, loop-m}
 use Rattle.parse_definitions.proofs.MeantDefinitions.{definition-m}
 
@@ -162,10 +163,10 @@ module _ (text : List ℕ) (short : length text ≤ 65536) where
 
   pub document-m : {i : ℕ} {fr : Frame} {f : Forest} {st : State} {t u : List ℕ} {s : St} → At text (suc i) 0 noParent fr f st t u s
       → Meant (λ ds. At text (suc i) 0 noParent fr (f ⊕ forest ds)) (documentIn text st t u) (parseDocument s)
-  unfolding documentIn parseDocument many most forest each
+  unfolding documentIn parseDocument forest each
   document-m {f = f} h =
-      loop-m definitionTree (λ ds. each definitionTree ds bare) (closesAt 255) (betweenIn text) overIn (restIn text) [] _∷_ documentEnd parseDefinition refl (λ a x. refl)
-      (λ f st t u s h. document-turn h) (λ f st t u s h. rest-m h) 65537 f _ _ _ _ h
+      loop-m definitionTree (λ ds. each definitionTree ds bare) (closesAt 255) (betweenIn text) overIn (restIn text) (between-rests text) (rest-falls text) [] _∷_ documentEnd parseDefinition refl (λ a x. refl)
+      (λ f st t u s h. document-turn h) (λ f st t u s h. rest-m h) short f _ _ _ _ h
 
   -- ---- the whole
 

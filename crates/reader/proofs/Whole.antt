@@ -1,5 +1,5 @@
 -- The document and the whole reading in code.
---     document-is           the document's loop, before its first turn (steps/proofs/LoopForms takes the turns)
+--     document-is           the document's loop (steps/proofs/LoopForms takes the turns)
 --     rest-is               a definition that was lent the unused rest of the table
 --     parse-unknown         22
 --     parse-judged          what the grammar finds
@@ -30,13 +30,13 @@ use Rattle.steps.specs.declared.state.State.{State}
 use Rattle.steps.specs.declared.state.Parsed.{Parsed}
 use Rattle.steps.specs.declared.state.Parsed.the-variants.{On, Refused}
 use Rattle.parser.specs.Read.{Reading, outcomeBy, outcome, answer, left, reading, said, told}
-use Rattle.steps.specs.Into.{Out, done, stop, shows, restAt, loopIn, closesAt, most}
+use Rattle.steps.specs.Into.{Out, done, stop, shows, restAt, loopIn, closesAt}
 use Rattle.parse_definitions.specs.Into.{definitionIn}
 use Rattle.reader.specs.Into.{inRest, restIn, betweenIn, overIn, documentIn, beginning, refusing, refusingAt, judged, unscanned, settled, parsing}
 
 pub document-is : (text : List ℕ) (st : State) (t u : List ℕ) → documentIn text st t u ≡
-    loopIn (closesAt 255) (betweenIn text) overIn (restIn text) 65537 st t u
-unfolding documentIn most
+    loopIn text (closesAt 255) (betweenIn text) overIn (restIn text) st t u
+unfolding documentIn
 document-is text st t u = refl
 
 lent-tail : (at : ℕ) (t u : List ℕ) → putMid at (length t - at) t u ≡ take at t ++ u

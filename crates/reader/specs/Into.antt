@@ -13,7 +13,7 @@ use Rattle.ast.specs.Records.{width, room, cleared}
 use Rattle.parser.specs.Read.{Reading, told}
 use Rattle.parser.specs.declared.Answer.the-variants as A
 use Rattle.steps.specs.declared.state.State.{State}
-use Rattle.steps.specs.Into.{Out, M, _⨟_, restAt, wiped, advanced, refused, most, skipIn, skipCommentsIn, loopIn, closesAt, done, stop}
+use Rattle.steps.specs.Into.{Out, M, _⨟_, restAt, wiped, advanced, refused, skipIn, skipCommentsIn, loopIn, closesAt, done, stop}
 use Rattle.parse_definitions.specs.Into.{definitionIn}
 
 -- ---- the document
@@ -33,7 +33,7 @@ unfoldable pub betweenIn : List ℕ → M
 betweenIn text = skipIn text true ⨟ (skipCommentsIn text false ⨟ skipIn text true)
 
 unfoldable pub documentIn : List ℕ → M
-documentIn text = loopIn (closesAt 255) (betweenIn text) overIn (restIn text) most
+documentIn text = loopIn text (closesAt 255) (betweenIn text) overIn (restIn text)
 
 unfoldable pub beginning : List ℕ → State
 beginning text =

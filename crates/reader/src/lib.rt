@@ -10,7 +10,6 @@ use lexer::location::LOC;
 use lexer::location::Lexer;
 use lexer::location::Span;
 use parser::Answer;
-use steps::state::MOST;
 use steps::state::NONE;
 use steps::state::Parsed;
 use steps::state::State;
@@ -81,8 +80,7 @@ fn parse_document(
     ensures { λ r. ⌜ Reads (documentIn (now (text .entry))) st r (now (nodes .entry)) (now (nodes .exit)) (now (comments .entry)) (now (comments .exit)) ⌝ }
 {
     let mut state = st;
-    let mut left = MOST;
-    while 0 < left {
+    loop {
         let found = between(class, trie, text, state, comments);
         if found.kind == NONE {
             return over(found);
@@ -92,9 +90,7 @@ fn parse_document(
             return read;
         };
         state = behind;
-        left -= 1;
     }
-    steps::refuse(state, 3)
 }
 
 // The state at the start of a text.

@@ -1,4 +1,6 @@
 pub mod Chain
+pub mod Bytes
+pub mod LoopForms
 pub mod Cells
 pub mod Turns
 pub mod Digits
@@ -8,4 +10,3 @@ pub mod Seen
 pub mod StepLaws
 pub mod SkipLaws
 pub mod NodeLaws
-pub mod LoopForms

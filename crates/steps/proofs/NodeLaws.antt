@@ -3,11 +3,10 @@
 --     finish-at           its own record, behind its children's
 --     leaf-at, leaf-m    a node that is one token
 --     Turn, loop-m        a list of members, until a state that closes
--- Assumes nothing.
 use mathlib.Core.Path.{_≡_, refl, sym, ap, _∙_}
 use mathlib.Core.Bool.{Bool, true, false, cond, false≢true}
 use mathlib.Core.List.{List, [], _∷_, _++_, append-assoc, append-nil}
-use Prim.Native.Nat.{ℕ, zero, suc, _+_, _-_, _≤_}
+use Prim.Native.Nat.{ℕ, zero, suc, _+_, _-_, _≤_, _<_}
 use native.Mathlib.Omega.{arith}
 use native.Mathlib.Nat.{zero-add}
 use lib.Dec.{eqb}
@@ -21,7 +20,7 @@ use Rattle.ast.specs.Tree.{Tree, node, Forest, bare, grown, leaf, single}
 use Rattle.ast.specs.Records.{row, sizes, rowsOf, owned, commentRowsOf}
 use Rattle.ast.proofs.Counts.{row-width, forest-wide, comments-wide, owned-wide, owned-count, append-all, noteCounts, note-counts, rows-sizes}
 use Rattle.steps.specs.declared.state.State.{State}
-use Rattle.parser.specs.Steps.{kind, place, span, St, pos, Res, ok, no, P, bind, test, next, when, peek, closed, loop}
+use Rattle.parser.specs.Steps.{kind, place, span, St, pos, Res, ok, no, P, bind, test, next, when, peek, closed, loop, many}
 use Rattle.steps.specs.Into.{
   Out,
   done,
@@ -35,9 +34,9 @@ use Rattle.steps.specs.Into.{
   opened,
   leafIn,
   putNode,
-  refuseIn,
   advanced,
   takeIn,
+  bytesLeft,
   parents,
   owns,
   loopIn,
@@ -46,8 +45,10 @@ use Rattle.steps.specs.Into.{
 use Rattle.parser.proofs.KindLaws.{one-test}
 use Rattle.steps.proofs.TableLaws.{lay, lay-append, put-lay, parents-lay}
 use Rattle.steps.proofs.ForestLaws.{_⊕_, plus-bare, plus-assoc, sizes-plus, counts-plus, rows-plus, notes-plus}
-use Rattle.steps.proofs.Seen.{small-bump, small-sum, lastOf, waitingOf, Frame, At, less, regrown, Meant, went, halted, bind-m, last-m}
-use Rattle.steps.proofs.StepLaws.{some-ahead, tested, step-at, Wanted, refuse-m, emptied}
+use Rattle.steps.proofs.Seen.{small-bump, small-sum, lastOf, waitingOf, Frame, At, less, regrown, few-left, Meant, went, halted, within-m, bind-m, last-m}
+use Rattle.steps.proofs.StepLaws.{some-ahead, tested, step-at, Wanted, emptied}
+use Rattle.steps.proofs.Bytes.{Within, within, weak-w, Falls, Rests}
+use Rattle.steps.proofs.LoopForms.{loop-is}
 
 -- ---- a node begins
 
@@ -233,27 +234,38 @@ pub closed-turn : (text : List ℕ) (short : length text ≤ 65536) {i b p : ℕ
 closed-turn text short k s h = closed-by text short k s h (peek (k ∷ []) s) refl
 
 module _ {text : List ℕ} {A B : Type 0} (G : A → Tree) (H : B → Forest) (closes : State → Bool) (skips shut member : M)
+    (rests : Rests text skips) (falls : Falls text member)
     (e : B) (c : A → B → B) (end : P Bool) (q : P A) {i b p : ℕ} {fr : Frame}
     (He : H e ≡ bare) (Hc : (a : A) (x : B) → H (c a x) ≡ grown (G a) (H x))
     (turns : (f : Forest) (st : State) (t u : List ℕ) (s : St) → At text i b p fr f st t u s → Turn text i b p fr f closes shut (skips st t u) (end s))
     (members : (f : Forest) (st : State) (t u : List ℕ) (s : St) → At text i b p fr f st t u s → Meant (λ a. At text i b p fr (f ⊕ single (G a))) (member st t u) (q s)) where
-  -- what is left of the loop, behind a turn
-  turned : (n : ℕ) → ((f : Forest) (st : State) (t u : List ℕ) (s : St) → At text i b p fr f st t u s
-      → Meant (λ x. At text i b p fr (f ⊕ H x)) (loopIn closes skips shut member n st t u) (loop e c end q n s))
-      → (f : Forest) {o : Out} {r : Res Bool} → Turn text i b p fr f closes shut o r
-      → Meant (λ x. At text i b p fr (f ⊕ H x)) (after o (λ st t u. cond (closes st) (shut st t u) (after (member st t u) (loopIn closes skips shut member n))))
-      (bind r (λ z. test z (λ s. ok e s) (λ s. bind (q s) (λ a s. bind (loop e c end q n s) (λ x s. ok (c a x) s)))))
-  unfolding after bind test single
-  turned n ih f (shuts {s = s} x y h) = rw (x, y) (went (regrown (sym (ap (λ (g : Forest). f ⊕ g) He ∙ plus-bare f)) h))
-  turned n ih f (refuses x y) = rw (x, y) halted
-  turned n ih f (goes {st = st} {t = t} {u = u} {s = s} x h) =
-      rw x
-      (bind-m (members f st t u s h) λ a st t u s h₁.
-      last-m (ih (f ⊕ single (G a)) st t u s h₁) λ x st t u s h₂. went (regrown (plus-assoc f (grown (G a) bare) (H x) ∙ sym (ap (λ (g : Forest). f ⊕ g) (Hc a x))) h₂))
-  turned n ih f halts = halted
+  -- with more turns for the definitions than there are bytes left
+  Loops : ℕ → Type 0
+  Loops n = (f : Forest) (st : State) (t u : List ℕ) (s : St) → At text i b p fr f st t u s → bytesLeft text st < n
+      → Meant (λ x. At text i b p fr (f ⊕ H x)) (loopIn text closes skips shut member st t u) (loop e c end q n s)
 
-  pub loop-m : (n : ℕ) (f : Forest) (st : State) (t u : List ℕ) (s : St) → At text i b p fr f st t u s
-      → Meant (λ x. At text i b p fr (f ⊕ H x)) (loopIn closes skips shut member n st t u) (loop e c end q n s)
-  unfolding loopIn loop refuseIn
-  loop-m zero f st t u s h = refuse-m s 3 h
-  loop-m (suc n) f st t u s h = turned n (loop-m n) f (turns f st t u s h)
+  -- what is left of the loop, behind a turn
+  turned : (n : ℕ) → Loops n → (f : Forest) {o : Out} {r : Res Bool} → Turn text i b p fr f closes shut o r → Within text 0 n o
+      → Meant (λ x. At text i b p fr (f ⊕ H x)) (after o (λ st t u. cond (closes st) (shut st t u) (after (member st t u) (loopIn text closes skips shut member))))
+      (bind r (λ z. test z (λ s. ok e s) (λ s. bind (q s) (λ a s. bind (loop e c end q n s) (λ x s. ok (c a x) s)))))
+  unfolding after bind test single Loops
+  turned n ih f (shuts {s = s} x y h) w = rw (x, y) (went (regrown (sym (ap (λ (g : Forest). f ⊕ g) He ∙ plus-bare f)) h))
+  turned n ih f (refuses x y) w = rw (x, y) halted
+  turned n ih f (goes {st = st} {t = t} {u = u} {s = s} x h) (within w) =
+      rw x
+      (bind-m (within-m (members f st t u s h) (falls st t u)) λ a st t u s h₁.
+      last-m (ih (f ⊕ single (G a)) st t u s (h₁ .0) (omega (arith, h₁ .1))) λ x st t u s h₂.
+      went (regrown (plus-assoc f (grown (G a) bare) (H x) ∙ sym (ap (λ (g : Forest). f ⊕ g) (Hc a x))) h₂))
+  turned n ih f halts w = halted
+
+  looped : (n : ℕ) → Loops n
+  unfolding Loops loop
+  looped zero f st t u s h l = absurd (omega arith)
+  looped (suc n) f st t u s h l =
+      rw (loop-is text closes skips shut member rests falls st t u)
+      (turned n (looped n) f (turns f st t u s h) (weak-w (λ x g. omega arith) (rests st t u)))
+
+  pub loop-m : length text ≤ 65536 → (f : Forest) (st : State) (t u : List ℕ) (s : St) → At text i b p fr f st t u s
+      → Meant (λ x. At text i b p fr (f ⊕ H x)) (loopIn text closes skips shut member st t u) (many e c end q s)
+  unfolding many Loops
+  loop-m short f st t u s h = looped 65537 f st t u s h (few-left st short (h .ahead))

@@ -6,6 +6,7 @@
 --     Meant               the code and the meaning both go on, with what Q says, or both refuse, with the same number and place
 --     bind-m, here-m, last-m, cond-m, grouped    a step and then the next one; by a test; steps that the code groups otherwise
 --     advance-ahead       one token further
+--     few-left            the bytes left
 --     small-bump, small-sum    the code's numbers are counted as they are
 -- Assumes nothing.
 use mathlib.Core.Path.{_≡_, refl, sym, _∙_}
@@ -14,6 +15,7 @@ use mathlib.Core.List.{List, [], _∷_, _++_}
 use Prim.Native.Nat.{ℕ, suc, _+_, _*_, _-_, _≤_, _<_}
 use native.Mathlib.Omega.{arith}
 use borrow.Author.Tests.{le-ltb, lt-ltb, le-leb}
+use lib.Dec.{eqb}
 use lib.ListN.{length}
 use Rattle.token.specs.Code.{code}
 use Rattle.lexer.specs.declared.location.Lexer.{Lexer}
@@ -33,9 +35,10 @@ use Rattle.ast.proofs.Counts.{Wide, noteCounts}
 use Rattle.steps.specs.declared.state.State.{State}
 use Rattle.parser.specs.Steps.{kind, bytes, place, St, pos, Res, ok, no, P, bind, test}
 use Rattle.parser.specs.Definitions.{isId}
-use Rattle.steps.specs.Into.{Out, done, stop, M, after, largest, bump, sum, lookAt, aheadOf, advanced, isIdAt}
+use Rattle.steps.specs.Into.{Out, done, stop, M, after, largest, bump, sum, lookAt, aheadOf, advanced, bytesLeft, isIdAt}
 use Rattle.steps.proofs.TableLaws.{lay}
 use Rattle.steps.proofs.ForestLaws.{_⊕_}
+use Rattle.steps.proofs.Bytes.{Within, within}
 
 -- ---- numbers that do not pass the largest
 
@@ -62,7 +65,7 @@ Sound text x = Stuck text x ≡ unrecognized (cuts text) 0
 -- the tokens left, with the code's kind, place and lexer
 pub data Ahead (text : List ℕ) (k : ℕ) (l : LOC) (x : Lexer) : List Lexeme → Type 0 where
   over : k ≡ 255 → Sound text x → Ahead text k l x []
-  on : {t : Lexeme} {ts : List Lexeme} → First text k l t → ts ≡ tokens text x → Placed x → Sound text x → Ahead text k l x (t ∷ ts)
+  on : {t : Lexeme} {ts : List Lexeme} → First text k l t → ts ≡ tokens text x → Placed x → 0 < x .at → Sound text x → Ahead text k l x (t ∷ ts)
 
 abbrev pub AheadOf : List ℕ → State → List Lexeme → Type 0
 AheadOf text st ts = Ahead text (st .kind) (st .loc) (st .lexer) ts
@@ -90,13 +93,23 @@ module _ (text : List ℕ) (short : length text ≤ 65536) where
       let i = next-inside text (st .lexer) s p e in
       rw (tokens-on text (st .lexer) s p e)
       (on (record { coded = refl; placed = refl; spelled = spelled-at text p (omega (arith, i .1)) (omega (arith, i .2, i .3)) })
-      refl (next-placed text (st .lexer) s p h short e) (sym (unrecognized-on text (st .lexer) s p e) ∙ q))
+      refl (next-placed text (st .lexer) s p h short e) (omega (arith, i .1, i .2)) (sym (unrecognized-on text (st .lexer) s p e) ∙ q))
   ahead-by N.End st h q e = rw (tokens-end text (st .lexer) e) (over refl q)
   ahead-by (N.Unrecognized p) st h q e = rw (tokens-unrecognized text (st .lexer) p e) (over refl q)
 
   pub advance-ahead : (st : State) → Placed (st .lexer) → Sound text (st .lexer) → AheadOf text (advanced text st) (tokens text (st .lexer))
   unfolding advanced
   advance-ahead st h q = rw (look (st .lexer) h) (ahead-by (L.next text (st .lexer)) st h q refl)
+
+-- fewer bytes are left than a list of the definitions has turns
+pub few-left : {text : List ℕ} {ts : List Lexeme} (st : State) → length text ≤ 65536 → AheadOf text st ts → bytesLeft text st < 65537
+unfolding bytesLeft
+few-left st short (over e q) = rw e (omega arith)
+few-left {text} st short (on h e x a q) = left (eqb (st .kind) 255)
+  where
+    left : (b : Bool) → cond b 0 (suc (length text - st .lexer .at)) < 65537
+    left true = omega arith
+    left false = omega arith
 
 moved-by : (r : Next) (st : State) → Moved st (aheadOf r st)
 unfolding aheadOf
@@ -198,6 +211,12 @@ pub weak-m : {A : Type 0} {Q R : A → State → List ℕ → List ℕ → St �
     → ((a : A) (st : State) (t u : List ℕ) (s : St) → Q a st t u s → R a st t u s) → Meant Q o r → Meant R o r
 weak-m g (went {a = a} {st = st} {t = t} {u = u} {s = s} q) = went (g a st t u s q)
 weak-m g halted = halted
+
+-- with the bytes that the code leaves
+pub within-m : {A : Type 0} {Q : A → State → List ℕ → List ℕ → St → Type 0} {text : List ℕ} {x b : ℕ} {o : Out} {r : Res A} → Meant Q o r → Within text x b o
+    → Meant (λ a st t u s. Q a st t u s × (x + bytesLeft text st ≤ b)) o r
+within-m (went q) (within h) = went (q, h)
+within-m halted h = halted
 
 module _ {A : Type 0} {Q : A → State → List ℕ → List ℕ → St → Type 0} where
   pub cond-m : {o v : Out} (p q : P A) (s : St) (c b : Bool) → c ≡ b → (b ≡ true → Meant Q o (p s)) → (b ≡ false → Meant Q v (q s))

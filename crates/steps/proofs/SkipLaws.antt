@@ -4,11 +4,10 @@
 --     comments-m          skip-comments
 --     trivia-m            skip-trivia
 --     separator-test, comment-test    the code's tests of a kind's number
--- Assumes nothing.
 use mathlib.Core.Path.{_≡_, refl, sym, ap, _∙_}
 use mathlib.Core.Bool.{Bool, true, false, cond}
 use mathlib.Core.List.{List, [], _∷_, _++_, append-assoc}
-use Prim.Native.Nat.{ℕ, zero, suc, _+_, _≤_, _<_}
+use Prim.Native.Nat.{ℕ, _+_, _≤_}
 use native.Mathlib.Omega.{arith}
 use lib.Dec.{eqb}
 use lib.ListN.{length, length-append}
@@ -43,19 +42,18 @@ use Rattle.parser.specs.Steps.{
 use Rattle.steps.specs.Into.{
   put,
   advanced,
-  most,
   isSeparator,
   isComment,
   passes,
-  skipFrom,
+  passed,
   skipIn,
   waits,
   putWaiting,
-  skipCommentsFrom,
   skipCommentsIn,
 }
 use Rattle.parser.proofs.Wf.{commentKinds}
 use Rattle.parser.proofs.KindLaws.{all, same, agree, Tests, apart}
+use Rattle.steps.proofs.Bytes.{passed-is, comments-is}
 use Rattle.steps.proofs.TableLaws.{lay, lay-append}
 use Rattle.steps.proofs.Seen.{small-bump, First, over as ended, on, AheadOf, advance-ahead, moved, Frame, At, less, Meant, went}
 use Rattle.steps.proofs.StepLaws.{first-ahead, step-at}
@@ -104,25 +102,21 @@ module _ (text : List ℕ) (short : length text ≤ 65536) (i b p : ℕ) (fr : F
 
   module _ (w : Bool) (F : Token → Fate) (ks : List Token) (test : Tests (λ n. passes n w) ks) (fates : (k : Token) → F k ≡ cond (among k ks) over S.stop)
       (u : List ℕ) (c : List Lexeme) where
-    Skips : ℕ → Type 0
-    Skips n = (st : State) (l : LOC) (ts : List Lexeme) → At text i b p fr f st t u (pos l c ts) → length ts < n
-        → At text i b p fr f (skipFrom text w n st) t u (pass F l c ts)
+    skip-on : (st : State) (l : LOC) (tok : Lexeme) (ts : List Lexeme) → At text i b p fr f st t u (pos l c (tok ∷ ts))
+        → (At text i b p fr f (advanced text st) t u (pos (place tok) c ts) → At text i b p fr f (passed text w (advanced text st)) t u (pass F (place tok) c ts))
+        → (z : Bool) → among (kind tok) ks ≡ z → At text i b p fr f (passed text w st) t u (pass F l c (tok ∷ ts))
+    unfolding pass by
+    skip-on st l tok ts h ih true e =
+        rw (passed-is text w st, passing w ks test st tok (first-ahead (h .ahead)), fates (kind tok), e) (ih (less (less (step-at text short h))))
+    skip-on st l tok ts h ih false e = rw (passed-is text w st, passing w ks test st tok (first-ahead (h .ahead)), fates (kind tok), e) h
 
-    skip-on : (n : ℕ) → Skips n → (st : State) (l : LOC) (tok : Lexeme) (ts : List Lexeme) → At text i b p fr f st t u (pos l c (tok ∷ ts)) → length ts < n
-        → (z : Bool) → among (kind tok) ks ≡ z → At text i b p fr f (skipFrom text w (suc n) st) t u (pass F l c (tok ∷ ts))
-    unfolding Skips skipFrom pass by
-    skip-on n ih st l tok ts h m true e =
-        rw (passing w ks test st tok (first-ahead (h .ahead)), fates (kind tok), e) (ih (advanced text st) (place tok) ts (less (less (step-at text short h))) m)
-    skip-on n ih st l tok ts h m false e = rw (passing w ks test st tok (first-ahead (h .ahead)), fates (kind tok), e) h
-
-    skips : (n : ℕ) → Skips n
-    unfolding Skips skipFrom pass
-    skips zero st l ts h m = absurd (omega arith)
-    skips (suc n) st l [] h m = go (h .ahead)
+    skips : (st : State) (l : LOC) (ts : List Lexeme) → At text i b p fr f st t u (pos l c ts) → At text i b p fr f (passed text w st) t u (pass F l c ts)
+    unfolding pass
+    skips st l [] h = go (h .ahead)
       where
-        go : AheadOf text st [] → At text i b p fr f (skipFrom text w (suc n) st) t u (pos l c [])
-        go (ended e q) = let z : passes (st .kind) w ≡ false = ap (λ (n : ℕ). passes n w) e ∙ test .fails in rw z h
-    skips (suc n) st l (tok ∷ ts) h m = skip-on n (skips n) st l tok ts h (omega arith) (among (kind tok) ks) refl
+        go : AheadOf text st [] → At text i b p fr f (passed text w st) t u (pos l c [])
+        go (ended e q) = let z : passes (st .kind) w ≡ false = ap (λ (n : ℕ). passes n w) e ∙ test .fails in rw (passed-is text w st, z) h
+    skips st l (tok ∷ ts) h = skip-on st l tok ts h (λ g. skips (advanced text st) (place tok) ts g) (among (kind tok) ks) refl
 
   -- ---- comments that wait
 
@@ -146,7 +140,7 @@ module _ (text : List ℕ) (short : length text ≤ 65536) (i b p : ℕ) (fr : F
       → AheadOf text st (tok ∷ ts)
       → At text i b p fr f (advanced text (waits st)) t (putWaiting st u) (pos (place tok) (c ++ tok ∷ []) ts)
   unfolding waits putWaiting
-  waited st u l c tok ts h (on a e x q) =
+  waited st u l c tok ts h (on a e x z q) =
       let m = moved text (waits st) in
       let n = st .owned + st .waiting in
       let xs = fr .owned ++ commentRowsOf f (fr .number) in
@@ -170,9 +164,9 @@ module _ (text : List ℕ) (short : length text ≤ 65536) (i b p : ℕ) (fr : F
 
   module _ (w : Bool) (q : Fate) (F : Token → Fate) (fates : (k : Token) → F k ≡ cond (among k commentKinds) wait (cond (among k separators) q S.stop))
       (what : q ≡ cond w over S.stop) where
-    Waits : ℕ → Type 0
-    Waits n = (st : State) (u : List ℕ) (l : LOC) (c ts : List Lexeme) → At text i b p fr f st t u (pos l c ts) → length ts < n
-        → Meant (λ (a : Unit {0}). At text i b p fr f) (skipCommentsFrom text w n st t u) (ok tt (pass F l c ts))
+    Waits : List Lexeme → Type 0
+    Waits ts = (st : State) (u : List ℕ) (l : LOC) (c : List Lexeme) → At text i b p fr f st t u (pos l c ts)
+        → Meant (λ (a : Unit {0}). At text i b p fr f) (skipCommentsIn text w st t u) (ok tt (pass F l c ts))
 
     -- the code's tests of the token ahead
     commented : (st : State) (tok : Lexeme) → First text (st .kind) (st .loc) tok → isComment (st .kind) ≡ among (kind tok) commentKinds
@@ -181,57 +175,58 @@ module _ (text : List ℕ) (short : length text ≤ 65536) (i b p : ℕ) (fr : F
     separated : (st : State) (tok : Lexeme) → First text (st .kind) (st .loc) tok → isSeparator (st .kind) ≡ among (kind tok) separators
     separated st tok h = ap isSeparator (h .coded) ∙ separator-test .agrees (kind tok)
 
-    wait-separator : (n : ℕ) → Waits n → (st : State) (u : List ℕ) (l : LOC) (c : List Lexeme) (tok : Lexeme) (ts : List Lexeme)
-        → At text i b p fr f st t u (pos l c (tok ∷ ts)) → length ts < n
+    wait-separator : (st : State) (u : List ℕ) (l : LOC) (c : List Lexeme) (tok : Lexeme) (ts : List Lexeme) → Waits ts
+        → At text i b p fr f st t u (pos l c (tok ∷ ts))
         → among (kind tok) commentKinds ≡ false → (v y : Bool) → w ≡ v → among (kind tok) separators ≡ y
-        → Meant (λ (a : Unit {0}). At text i b p fr f) (skipCommentsFrom text w (suc n) st t u) (ok tt (pass F l c (tok ∷ ts)))
-    unfolding Waits skipCommentsFrom pass by
-    wait-separator n ih st u l c tok ts h m z true true a e =
-        rw (commented st tok (first-ahead (h .ahead)), fates (kind tok), z, separated st tok (first-ahead (h .ahead)), e, what, a)
-        (rw a at (ih (advanced text st) u (place tok) c ts (less (less (step-at text short h))) m))
-    wait-separator n ih st u l c tok ts h m z true false a e =
-        rw (commented st tok (first-ahead (h .ahead)), fates (kind tok), z, separated st tok (first-ahead (h .ahead)), e, a) (went h)
-    wait-separator n ih st u l c tok ts h m z false true a e = rw (commented st tok (first-ahead (h .ahead)), fates (kind tok), z, e, what, a) (went h)
-    wait-separator n ih st u l c tok ts h m z false false a e = rw (commented st tok (first-ahead (h .ahead)), fates (kind tok), z, e, a) (went h)
+        → Meant (λ (a : Unit {0}). At text i b p fr f) (skipCommentsIn text w st t u) (ok tt (pass F l c (tok ∷ ts)))
+    unfolding Waits pass by
+    wait-separator st u l c tok ts ih h z true true a e =
+        rw (comments-is text w st t u, commented st tok (first-ahead (h .ahead)), fates (kind tok), z, separated st tok (first-ahead (h .ahead)), e, what, a)
+        (rw a at (ih (advanced text st) u (place tok) c (less (less (step-at text short h)))))
+    wait-separator st u l c tok ts ih h z true false a e =
+        rw (comments-is text w st t u, commented st tok (first-ahead (h .ahead)), fates (kind tok), z, separated st tok (first-ahead (h .ahead)), e, a) (went h)
+    wait-separator st u l c tok ts ih h z false true a e =
+        rw (comments-is text w st t u, commented st tok (first-ahead (h .ahead)), fates (kind tok), z, e, what, a) (went h)
+    wait-separator st u l c tok ts ih h z false false a e =
+        rw (comments-is text w st t u, commented st tok (first-ahead (h .ahead)), fates (kind tok), z, e, a) (went h)
 
-    wait-on : (n : ℕ) → Waits n → (st : State) (u : List ℕ) (l : LOC) (c : List Lexeme) (tok : Lexeme) (ts : List Lexeme)
-        → At text i b p fr f st t u (pos l c (tok ∷ ts)) → length ts < n
+    wait-on : (st : State) (u : List ℕ) (l : LOC) (c : List Lexeme) (tok : Lexeme) (ts : List Lexeme) → Waits ts
+        → At text i b p fr f st t u (pos l c (tok ∷ ts))
         → (z : Bool) → among (kind tok) commentKinds ≡ z
-        → Meant (λ (a : Unit {0}). At text i b p fr f) (skipCommentsFrom text w (suc n) st t u) (ok tt (pass F l c (tok ∷ ts)))
-    unfolding Waits skipCommentsFrom pass by
-    wait-on n ih st u l c tok ts h m true e =
-        rw (commented st tok (first-ahead (h .ahead)), fates (kind tok), e)
-        (ih (advanced text (waits st)) (putWaiting st u) (place tok) (c ++ tok ∷ []) ts (waited st u l c tok ts h (h .ahead)) m)
-    wait-on n ih st u l c tok ts h m false e = wait-separator n ih st u l c tok ts h m e w (among (kind tok) separators) refl refl
+        → Meant (λ (a : Unit {0}). At text i b p fr f) (skipCommentsIn text w st t u) (ok tt (pass F l c (tok ∷ ts)))
+    unfolding Waits pass by
+    wait-on st u l c tok ts ih h true e =
+        rw (comments-is text w st t u, commented st tok (first-ahead (h .ahead)), fates (kind tok), e)
+        (ih (advanced text (waits st)) (putWaiting st u) (place tok) (c ++ tok ∷ []) (waited st u l c tok ts h (h .ahead)))
+    wait-on st u l c tok ts ih h false e = wait-separator st u l c tok ts ih h e w (among (kind tok) separators) refl refl
 
-    none-waits : (v : Bool) (n : ℕ) (st : State) (u : List ℕ) (l : LOC) (c : List Lexeme) → At text i b p fr f st t u (pos l c []) → AheadOf text st []
-        → Meant (λ (a : Unit {0}). At text i b p fr f) (skipCommentsFrom text v (suc n) st t u) (ok tt (pos l c []))
-    unfolding skipCommentsFrom
-    none-waits true n st u l c h (ended e q) =
+    none-waits : (v : Bool) (st : State) (u : List ℕ) (l : LOC) (c : List Lexeme) → At text i b p fr f st t u (pos l c []) → AheadOf text st []
+        → Meant (λ (a : Unit {0}). At text i b p fr f) (skipCommentsIn text v st t u) (ok tt (pos l c []))
+    none-waits true st u l c h (ended e q) =
         let y : isComment (st .kind) ≡ false = ap isComment e ∙ comment-test .fails in
         let z : isSeparator (st .kind) ≡ false = ap isSeparator e ∙ separator-test .fails in
-        rw (y, z) (went h)
-    none-waits false n st u l c h (ended e q) = let y : isComment (st .kind) ≡ false = ap isComment e ∙ comment-test .fails in rw y (went h)
+        rw (comments-is text true st t u, y, z) (went h)
+    none-waits false st u l c h (ended e q) =
+        let y : isComment (st .kind) ≡ false = ap isComment e ∙ comment-test .fails in rw (comments-is text false st t u, y) (went h)
 
-    all-wait : (n : ℕ) → Waits n
+    all-wait : (ts : List Lexeme) → Waits ts
     unfolding Waits pass
-    all-wait zero st u l c ts h m = absurd (omega arith)
-    all-wait (suc n) st u l c [] h m = none-waits w n st u l c h (h .ahead)
-    all-wait (suc n) st u l c (tok ∷ ts) h m = wait-on n (all-wait n) st u l c tok ts h (omega arith) (among (kind tok) commentKinds) refl
+    all-wait [] st u l c h = none-waits w st u l c h (h .ahead)
+    all-wait (tok ∷ ts) st u l c h = wait-on st u l c tok ts (all-wait ts) h (among (kind tok) commentKinds) refl
 
 -- ---- the four
 
 module _ (text : List ℕ) (short : length text ≤ 65536) {i b p : ℕ} {fr : Frame} {f : Forest} {st : State} {t u : List ℕ} where
   discards : (w : Bool) (F : Token → Fate) (ks : List Token) → Tests (λ n. passes n w) ks → ((k : Token) → F k ≡ cond (among k ks) over S.stop)
       → (s : St) → At text i b p fr f st t u s → Meant (λ (a : Unit {0}). At text i b p fr f) (skipIn text w st t u) (skip F s)
-  unfolding skipIn skip most Skips
-  discards w F ks x y (pos l c ts) h = went (skips text short i b p fr f t w F ks x y u c 65537 st l ts h (omega (arith, h .space)))
+  unfolding skipIn skip
+  discards w F ks x y (pos l c ts) h = went (skips text short i b p fr f t w F ks x y u c st l ts h)
 
   keeps : (w : Bool) (q : Fate) (F : Token → Fate) → ((k : Token) → F k ≡ cond (among k commentKinds) wait (cond (among k separators) q S.stop))
       → q ≡ cond w over S.stop
       → (s : St) → At text i b p fr f st t u s → Meant (λ (a : Unit {0}). At text i b p fr f) (skipCommentsIn text w st t u) (skip F s)
-  unfolding skipCommentsIn skip most Waits
-  keeps w q F x y (pos l c ts) h = all-wait text short i b p fr f t w q F x y 65537 st u l c ts h (omega (arith, h .space))
+  unfolding skip Waits
+  keeps w q F x y (pos l c ts) h = all-wait text short i b p fr f t w q F x y ts st u l c h
 
   pub separators-m : (s : St) → At text i b p fr f st t u s → Meant (λ (a : Unit {0}). At text i b p fr f) (skipIn text true st t u) (skip-separator s)
   unfolding skip-separator passes

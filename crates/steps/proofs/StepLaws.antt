@@ -49,21 +49,21 @@ pub none-ahead : {text : List ℕ} {k : ℕ} {l : LOC} {x : Lexer} → Ahead tex
 none-ahead (over e q) = eq-eqb _ _ e
 
 pub some-ahead : {text : List ℕ} {k : ℕ} {l : LOC} {x : Lexer} {t : Lexeme} {ts : List Lexeme} → Ahead text k l x (t ∷ ts) → eqb k 255 ≡ false
-some-ahead {t = t} (on h e x q) = rw (h .coded) (code-some (kind t))
+some-ahead {t = t} (on h e x z q) = rw (h .coded) (code-some (kind t))
 
 pub first-ahead : {text : List ℕ} {k : ℕ} {l : LOC} {x : Lexer} {t : Lexeme} {ts : List Lexeme} → Ahead text k l x (t ∷ ts) → First text k l t
-first-ahead (on h e x q) = h
+first-ahead (on h e x z q) = h
 
 pub sound-ahead : {text : List ℕ} {k : ℕ} {l : LOC} {x : Lexer} {ts : List Lexeme} → Ahead text k l x ts → Sound text x
 sound-ahead (over e q) = q
-sound-ahead (on h e x q) = q
+sound-ahead (on h e x z q) = q
 
 -- a test of the code's kind is the test of the token's
 pub tested : {g : ℕ → Bool} {ks : List Token} {text : List ℕ} {k : ℕ} {l : LOC} {x : Lexer} (s : St) → Tests g ks → Ahead text k l x (leftOf s)
     → g k ≡ peek ks s
 unfolding peek
 tested {g = g} (pos l c []) h (over e q) = ap g e ∙ h .fails
-tested {g = g} (pos l c (t ∷ ts)) h (on a e x q) = ap g (a .coded) ∙ h .agrees (kind t)
+tested {g = g} (pos l c (t ∷ ts)) h (on a e x z q) = ap g (a .coded) ∙ h .agrees (kind t)
 
 -- ---- one token
 
@@ -97,7 +97,7 @@ refuse-at-m e st tok s h =
 module _ (text : List ℕ) (short : length text ≤ 65536) {i b p : ℕ} {fr : Frame} {f : Forest} {st : State} {t u : List ℕ} where
   stepped : {l : LOC} {c ts : List Lexeme} {tok : Lexeme} → At text i b p fr f st t u (pos l c (tok ∷ ts)) → AheadOf text st (tok ∷ ts)
       → At text (suc (suc i)) b p fr f (advanced text st) t u (pos (place tok) c ts)
-  stepped h (on a e x q) =
+  stepped h (on a e x z q) =
       let m = moved text st in
       record {
         last = m .last ∙ a .placed;

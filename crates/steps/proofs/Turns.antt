@@ -1,65 +1,50 @@
--- One turn of the reader's loops over tokens and over comments. Assumes nothing.
+-- One turn of the reader's loops over tokens and over comments.
 use mathlib.Core.Path.{_≡_, ap, _∙_}
-use mathlib.Core.Bool.{Bool, true, false, cond}
+use mathlib.Core.Bool.{Bool, true, false}
 use mathlib.Core.List.{List}
 use Prim.Native.Nat.{ℕ, suc, _+_, _-_, _≤_, _<_}
 use native.Mathlib.Omega.{arith}
 use Rattle.steps.specs.declared.state.State.{State}
-use Rattle.steps.specs.Into.{done, advanced, passes, skipFrom, isComment, isSeparator, waits, putWaiting, waitIn, skipCommentsFrom, putParent, parents}
+use Rattle.steps.specs.Into.{done, advanced, bytesLeft, passes, passed, isComment, isSeparator, waits, putWaiting, waitIn, skipCommentsIn, putParent, parents}
+use Rattle.steps.proofs.Bytes.{passed-is, comments-is, comment-some, wait-falls}
 
 -- ---- skip
 
-module _ (text : List ℕ) (s : Bool) (n : ℕ) (st : State) where
-  pub skip-none : n ≤ 0 → skipFrom text s n st ≡ st
-  unfolding skipFrom
-  skip-none h = let e : n ≡ 0 = omega arith in rw e
+module _ (text : List ℕ) (s : Bool) (st : State) where
+  pub skip-stop : passes (st .kind) s ≡ false → passed text s st ≡ st
+  skip-stop e = rw e at (passed-is text s st)
 
-  skip-turn : 0 < n → skipFrom text s n st ≡ cond (passes (st .kind) s) (skipFrom text s (n - 1) (advanced text st)) st
-  unfolding skipFrom
-  skip-turn h =
-      let e : n ≡ suc (n - 1) = omega arith in
-      ap (λ (k : ℕ). skipFrom text s k st) e
-
-  pub skip-stop : 0 < n → passes (st .kind) s ≡ false → skipFrom text s n st ≡ st
-  skip-stop h e = rw e at (skip-turn h)
-
-  pub skip-pass : 0 < n → passes (st .kind) s ≡ true → skipFrom text s n st ≡ skipFrom text s (n - 1) (advanced text st)
-  skip-pass h e = rw e at (skip-turn h)
+  pub skip-pass : passes (st .kind) s ≡ true → passed text s st ≡ passed text s (advanced text st)
+  skip-pass e = rw e at (passed-is text s st)
 
 -- ---- skip_comments
 
-module _ (text : List ℕ) (s : Bool) (n : ℕ) (st : State) (t u : List ℕ) where
-  pub comments-none : n ≤ 0 → skipCommentsFrom text s n st t u ≡ done st t u
-  unfolding skipCommentsFrom
-  comments-none h = let e : n ≡ 0 = omega arith in rw e
-
-  comments-turn : 0 < n → skipCommentsFrom text s n st t u
-      ≡ cond (isComment (st .kind)) (skipCommentsFrom text s (n - 1) (advanced text (waits st)) t (putWaiting st u))
-      (cond s (cond (isSeparator (st .kind)) (skipCommentsFrom text s (n - 1) (advanced text st) t u) (done st t u)) (done st t u))
-  unfolding skipCommentsFrom
-  comments-turn h =
-      let e : n ≡ suc (n - 1) = omega arith in
-      ap (λ (k : ℕ). skipCommentsFrom text s k st t u) e
-
+module _ (text : List ℕ) (s : Bool) (st : State) (t u : List ℕ) where
   -- a comment, which waits
-  pub comments-wait : (r : State) (v : List ℕ) → 0 < n → isComment (st .kind) ≡ true → done r t v ≡ waitIn st t u
-      → skipCommentsFrom text s n st t u ≡ skipCommentsFrom text s (n - 1) (advanced text r) t v
+  pub comments-wait : (r : State) (v : List ℕ) → isComment (st .kind) ≡ true → done r t v ≡ waitIn st t u
+      → skipCommentsIn text s st t u ≡ skipCommentsIn text s (advanced text r) t v
   unfolding waitIn
-  comments-wait r v h e f =
+  comments-wait r v e f =
       let a : r ≡ waits st = cc in
       let b : v ≡ putWaiting st u = cc in
-      rw (a, b) (rw e at (comments-turn h))
+      rw (a, b) (rw e at (comments-is text s st t u))
 
   -- no comment: the end, unless it is a separator and those are passed too
-  module _ (h : 0 < n) (e : isComment (st .kind) ≡ false) where
-    pub comments-only : s ≡ false → skipCommentsFrom text s n st t u ≡ done st t u
-    comments-only f = comments-turn h ∙ rw (e, f)
+  module _ (e : isComment (st .kind) ≡ false) where
+    pub comments-only : s ≡ false → skipCommentsIn text s st t u ≡ done st t u
+    comments-only f = comments-is text s st t u ∙ rw (e, f)
 
-    pub comments-stop : s ≡ true → isSeparator (st .kind) ≡ false → skipCommentsFrom text s n st t u ≡ done st t u
-    comments-stop f g = comments-turn h ∙ rw (e, f, g)
+    pub comments-stop : s ≡ true → isSeparator (st .kind) ≡ false → skipCommentsIn text s st t u ≡ done st t u
+    comments-stop f g = comments-is text s st t u ∙ rw (e, f, g)
 
-    pub comments-pass : s ≡ true → isSeparator (st .kind) ≡ true → skipCommentsFrom text s n st t u ≡ skipCommentsFrom text s (n - 1) (advanced text st) t u
-    comments-pass f g = comments-turn h ∙ rw (e, f, g)
+    pub comments-pass : s ≡ true → isSeparator (st .kind) ≡ true → skipCommentsIn text s st t u ≡ skipCommentsIn text s (advanced text st) t u
+    comments-pass f g = comments-is text s st t u ∙ rw (e, f, g)
+
+-- by which way a turn passes a token: fewer bytes are left
+pub wait-less : (text : List ℕ) (st r : State) (t u v : List ℕ) → isComment (st .kind) ≡ true → done r t v ≡ waitIn st t u
+    → bytesLeft text (advanced text r) < bytesLeft text st
+unfolding waitIn
+wait-less text st r t u v e f = let a : r ≡ waits st = cc in rw a (wait-falls text st (comment-some (st .kind) e))
 
 -- ---- own
 

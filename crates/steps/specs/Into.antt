@@ -145,9 +145,10 @@ takeIn text st t u = cond (eqb (st .kind) 255) (refused 3 st) (done (advanced te
 unfoldable pub expectIn : List ℕ → ℕ → ℕ → M
 expectIn text k e st t u = cond (eqb (st .kind) k) (takeIn text st t u) (refused e st)
 
--- more members, and more tokens, than a text can have
-unfoldable pub most : ℕ
-most = 65537
+-- the bytes behind the lexer, and one for the token ahead; none where no token is ahead. What takes a token makes them fall, so a loop has at most
+-- one turn more than bytes are left, and each below is its first turn and then itself (passed-is and comments-is in proofs/Bytes, loop-is in LoopForms)
+unfoldable pub bytesLeft : List ℕ → State → ℕ
+bytesLeft text st = cond (eqb (st .kind) 255) 0 (suc (length text - st .lexer .at))
 
 unfoldable pub isSeparator : ℕ → Bool
 isSeparator k = eqb k 44 || eqb k 42
@@ -162,8 +163,12 @@ unfoldable pub skipFrom : List ℕ → Bool → ℕ → State → State
 skipFrom text s zero st = st
 skipFrom text s (suc n) st = cond (passes (st .kind) s) (skipFrom text s n (advanced text st)) st
 
+-- behind all that a skip passes over
+unfoldable pub passed : List ℕ → Bool → State → State
+passed text s st = skipFrom text s (suc (bytesLeft text st)) st
+
 unfoldable pub skipIn : List ℕ → Bool → M
-skipIn text s st t u = done (skipFrom text s most st) t u
+skipIn text s st t u = done (passed text s st) t u
 
 -- the comment ahead waits
 unfoldable pub waits : State → State
@@ -182,7 +187,7 @@ skipCommentsFrom text s (suc n) st t u =
     (cond s (cond (isSeparator (st .kind)) (skipCommentsFrom text s n (advanced text st) t u) (done st t u)) (done st t u))
 
 unfoldable pub skipCommentsIn : List ℕ → Bool → M
-skipCommentsIn text s = skipCommentsFrom text s most
+skipCommentsIn text s st = skipCommentsFrom text s (suc (bytesLeft text st)) st
 
 -- the comments that wait go to a node
 unfoldable pub parents : ℕ → ℕ → ℕ → List ℕ → List ℕ
@@ -196,10 +201,13 @@ unfoldable pub ownIn : ℕ → M
 ownIn p st t u = done (owns st) t (parents (st .owned) (st .waiting) p u)
 
 -- members until a state that closes
-unfoldable pub loopIn : (State → Bool) → M → M → M → ℕ → M
-loopIn closes skips shut member zero = refuseIn 3
-loopIn closes skips shut member (suc n) =
-    skips ⨟ λ st t u. cond (closes st) (shut st t u) ((member ⨟ loopIn closes skips shut member n) st t u)
+unfoldable pub turnsIn : (State → Bool) → M → M → M → ℕ → M
+turnsIn closes skips shut member zero = refuseIn 3
+turnsIn closes skips shut member (suc n) =
+    skips ⨟ λ st t u. cond (closes st) (shut st t u) ((member ⨟ turnsIn closes skips shut member n) st t u)
+
+unfoldable pub loopIn : List ℕ → (State → Bool) → M → M → M → M
+loopIn text closes skips shut member st = turnsIn closes skips shut member (suc (bytesLeft text st)) st
 
 unfoldable pub closesAt : ℕ → State → Bool
 closesAt k st = eqb (st .kind) k

@@ -4,11 +4,10 @@ pub mod state;
 pub mod table;
 
 ghost use mathlib.Core.Path.{_≡_};
-ghost use Rattle.steps.specs.Into.{Keeps, Lent, Still, lookAt, aheadOf, advanced, refuseIn, startAt, takeIn, expectIn, most, isSeparator, isComment, passes, skipFrom, waitIn, skipCommentsIn, ownIn};
+ghost use Rattle.steps.specs.Into.{Keeps, Lent, Still, lookAt, aheadOf, advanced, refuseIn, startAt, takeIn, expectIn, isSeparator, isComment, passes, passed, waitIn, skipCommentsIn, ownIn};
 use lexer::location::Lexer;
 use lexer::location::Next;
 use lexer::location::Span;
-use state::MOST;
 use state::NONE;
 use state::Parsed;
 use state::State;
@@ -131,16 +130,11 @@ pub fn expect(
 // skip_separator (`separators`), skip_comments_discard (else).
 pub fn skip(class: &[u8; 256], trie: &[u8; 512], text: &[u8], st: State, separators: bool) -> State
     requires { ⌜ Lent (now class) (now trie) (now text) ⌝ }
-    ensures { λ r. ⌜ r ≡ skipFrom (now (text .entry)) separators most st ⌝ }
+    ensures { λ r. ⌜ r ≡ passed (now (text .entry)) separators st ⌝ }
 {
     let mut state = st;
-    let mut left = MOST;
-    while 0 < left {
-        if !passes(state.kind, separators) {
-            return state;
-        }
+    while passes(state.kind, separators) {
         state = advance(class, trie, text, state);
-        left -= 1;
     }
     state
 }
@@ -186,8 +180,7 @@ pub fn skip_comments(
     ensures { λ r. ⌜ Keeps (skipCommentsIn (now (text .entry)) separators) st r (now (comments .entry)) (now (comments .exit)) ⌝ }
 {
     let mut state = st;
-    let mut left = MOST;
-    while 0 < left {
+    loop {
         if is_comment(state.kind) {
             state = wait(state, comments);
         } else {
@@ -199,9 +192,7 @@ pub fn skip_comments(
             }
         }
         state = advance(class, trie, text, state);
-        left -= 1;
     }
-    state
 }
 
 // The comment ahead waits: its record stands behind the others, without its owner.

@@ -17,9 +17,6 @@ pub struct State {
 // The kind where no token is left.
 pub const NONE: u8 = 255;
 
-// More members than a text can have: a loop over members, or over tokens, turns less often.
-pub const MOST: u32 = 65537;
-
 // What a reader leaves: the state behind what it read, or document 01's number and the token's place.
 pub enum Parsed {
     On(State),
