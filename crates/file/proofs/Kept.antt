@@ -1,6 +1,5 @@
 -- DEMAND 3 OF THE CODE holds: what `run` leaves is as specs/Run says.
 --     run-kept   for every list of requests, every file that the premise holds of, and whatever is lent
--- Assumes nothing.
 use mathlib.Core.Path.{_≡_, refl, sym, ap, _∙_}
 use mathlib.Core.Bool.{Bool, true, false, cond, _||_, or-false, or-assoc}
 use mathlib.Core.List.{List, [], _∷_}
@@ -15,12 +14,12 @@ use Rattle.ast.specs.Records.{nodeRows, notes, room}
 use Rattle.writer.specs.Print.{printed}
 use Rattle.writer.specs.declared.Printed.the-variants.{Accepted, Refused}
 use Rattle.writer.specs.Write as W
-use Rattle.file.specs.Calls.{Given, gives, kept, leaves, trace}
-use Rattle.file.specs.Demand.{Accepts, answers, printsIt}
-use Rattle.file.specs.Agree.{Agree}
+use Rattle.demand.specs.Calls.{Given, gives, kept, leaves, trace}
+use Rattle.demand.specs.Demand.{Accepts, answers, printsIt}
+use Rattle.demand.specs.Agree.{Agree}
 use Rattle.file.specs.Run.{Request, ask, Memory, callOf, keptIn, settled, after, runs, callsOf, anyPrint, Unaltered}
-use Rattle.file.proofs.Steps.{file, found, given, onward, file-print}
-use Rattle.file.proofs.Demand.{print-fixed, demand-3}
+use Rattle.demand.proofs.Steps.{file, found, given, onward, file-print}
+use Rattle.demand.proofs.Demand.{print-fixed, demand-3}
 
 -- a print that the file's space holds
 kept-in : (x y z : Bool) (space n c b : ℕ) (out f : List ℕ) → b ≤ space →

@@ -6,7 +6,6 @@
 --     print-is                              a printing
 --     call-reads, call-prints               one call
 --     turn, none-left                       a turn of a run, and its end
--- Assumes nothing.
 use mathlib.Core.Path.{_≡_, refl, sym, ap, _∙_}
 use mathlib.Core.Bool.{Bool, true, false, cond, not, false≢true}
 use mathlib.Core.List.{List, [], _∷_, _++_}
@@ -26,7 +25,7 @@ use Rattle.writer.specs.declared.Printed.{Printed}
 use Rattle.writer.specs.declared.Printed.the-variants.{Accepted, Refused}
 use Rattle.writer.specs.Write as W
 use Rattle.writer.specs.Write.{Printing, told, outcomeAt, printOf, printing}
-use Rattle.file.specs.Calls.{has-printed, gives}
+use Rattle.demand.specs.Calls.{has-printed, gives}
 use Rattle.file.specs.Run.{Request, ask, requestsOf, Memory, held, callOf, keptIn, settled, after, runs}
 
 -- ---- so many of a slice, or as many as there are

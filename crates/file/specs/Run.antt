@@ -1,4 +1,4 @@
--- What `run` does: a list of readings and printings of one file that is held in memory. Assumes nothing: these are definitions.
+-- What `run` does: a list of readings and printings of one file that is held in memory.
 use mathlib.Core.Path.{_≡_}
 use mathlib.Core.Bool.{Bool, true, false, cond, not, _||_}
 use mathlib.Core.List.{List, [], _∷_, _++_}
@@ -10,8 +10,8 @@ use Rattle.ast.specs.Ast.{Definition}
 use Rattle.writer.specs.Print.{printed}
 use Rattle.writer.specs.declared.Printed.{Printed}
 use Rattle.writer.specs.declared.Printed.the-variants.{Accepted, Refused}
-use Rattle.file.specs.Calls.{Call, reads, prints, Given, has-read, has-printed, gives, Entry, entry, trace}
-use Rattle.file.specs.Demand.{printsIt, Premise, Stays}
+use Rattle.demand.specs.Calls.{Call, reads, prints, Given, has-read, has-printed, gives, Entry, entry, trace}
+use Rattle.demand.specs.Demand.{printsIt, Premise, Stays}
 
 -- a reading, or a printing, and how many numbers of each table and bytes of the output it is lent
 pub data Request : Type 0 where

@@ -1,4 +1,4 @@
--- `file::call` meets its contract. Assumes nothing.
+-- `file::call` meets its contract.
 use borrow.Author.Needs.{needs}
 use Rattle.file.proofs.Stored.{call-reads, call-prints}
 use Rattle.file.proofs.call.Statement.{statement}

@@ -1,4 +1,4 @@
--- `file::print_file` meets its contract. Assumes nothing.
+-- `file::print_file` meets its contract.
 use borrow.Author.Needs.{needs}
 use Rattle.file.proofs.Stored.{most-long, lent-long, written-in, print-is}
 use Rattle.file.proofs.print_file.Statement.{statement}

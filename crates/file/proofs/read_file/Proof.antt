@@ -1,4 +1,4 @@
--- `file::read_file` meets its contract. Assumes nothing.
+-- `file::read_file` meets its contract.
 use borrow.Author.Needs.{needs}
 use Rattle.file.proofs.Stored.{most-long, read-is}
 use Rattle.file.proofs.read_file.Statement.{statement}

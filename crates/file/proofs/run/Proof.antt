@@ -1,4 +1,4 @@
--- `file::run` meets its contract. The invariant: the requests left, from here, make what all of them make. Assumes nothing.
+-- `file::run` meets its contract. The invariant: the requests left, from here, make what all of them make.
 use mathlib.Core.Path.{_≡_, refl, ap, _∙_}
 use Prim.Native.Nat.{_≤_, _-_}
 use native.Mathlib.Omega.{arith}

@@ -1,4 +1,4 @@
--- `file::store` meets its contract. Assumes nothing.
+-- `file::store` meets its contract.
 use mathlib.Core.Path.{sym}
 use borrow.Author.Needs.{needs}
 use lib.Seq.{length-take-le}
