@@ -42,12 +42,13 @@ struct Request {
     out: usize,
 }
 
-// The file's length after some calls, and what the printings among them came to.
+// The file's length after some calls, what the printings among them came to, and whether `file::run` leaves the same.
 struct Steps {
     length: usize,
     accepted: u32,
     refused: u32,
     kept: u32,
+    same: bool,
 }
 
 // What was called and compared.
@@ -277,25 +278,74 @@ fn print_byte(out: &[u8], k: usize, bytes: usize) -> u8 {
     if k < out.len() { out[k] } else { 0 }
 }
 
-// An accepted printing: the file is what it wrote, if its space holds that.
-fn keep(space: &mut [u8], out: &[u8], bytes: usize, steps: Steps) -> Steps {
+// Lays the print that stands in an output into a space, and 0 behind it.
+fn lay(space: &mut [u8], out: &[u8], bytes: usize) {
+    for k in 0..space.len() {
+        space[k] = print_byte(out, k, bytes);
+    }
+}
+
+// After a printing: the file is what it wrote if it is accepted, and its space holds that.
+fn keep(space: &mut [u8], out: &[u8], printed: Printed, steps: Steps) -> Steps {
+    let Printed::Accepted {
+        nodes: _,
+        comments: _,
+        bytes,
+    } = printed
+    else {
+        return Steps {
+            length: steps.length,
+            accepted: steps.accepted,
+            refused: more(steps.refused),
+            kept: steps.kept,
+            same: steps.same,
+        };
+    };
     if space.len() < bytes {
         return Steps {
             length: steps.length,
             accepted: more(steps.accepted),
             refused: steps.refused,
             kept: steps.kept,
+            same: steps.same,
         };
     }
-    for k in 0..space.len() {
-        space[k] = print_byte(out, k, bytes);
-    }
+    lay(space, out, bytes);
     Steps {
         length: bytes,
         accepted: more(steps.accepted),
         refused: steps.refused,
         kept: more(steps.kept),
+        same: steps.same,
     }
+}
+
+// A reading.
+fn make_reading(text: &[u8], request: Request, nodes: &mut [u32], comments: &mut [u32]) {
+    let a = least(request.nodes, nodes.len());
+    let b = least(request.comments, comments.len());
+    reader::read(text, &mut nodes[..a], &mut comments[..b]);
+}
+
+// A printing.
+fn make_printing(
+    text: &[u8],
+    indent: u32,
+    request: Request,
+    nodes: &mut [u32],
+    comments: &mut [u32],
+    out: &mut [u8],
+) -> Printed {
+    let a = least(request.nodes, nodes.len());
+    let b = least(request.comments, comments.len());
+    let c = least(request.out, out.len());
+    printer::print(
+        text,
+        indent,
+        &mut nodes[..a],
+        &mut comments[..b],
+        &mut out[..c],
+    )
 }
 
 // One call of the reader or the printer.
@@ -309,34 +359,12 @@ fn make_call(
     out: &mut [u8],
 ) -> Steps {
     let length = least(steps.length, space.len());
-    let a = least(request.nodes, nodes.len());
-    let b = least(request.comments, comments.len());
     if request.kind == 0 {
-        reader::read(&space[..length], &mut nodes[..a], &mut comments[..b]);
+        make_reading(&space[..length], request, nodes, comments);
         return steps;
     }
-    let c = least(request.out, out.len());
-    let printed = printer::print(
-        &space[..length],
-        indent,
-        &mut nodes[..a],
-        &mut comments[..b],
-        &mut out[..c],
-    );
-    let Printed::Accepted {
-        nodes: _,
-        comments: _,
-        bytes,
-    } = printed
-    else {
-        return Steps {
-            length: steps.length,
-            accepted: steps.accepted,
-            refused: more(steps.refused),
-            kept: steps.kept,
-        };
-    };
-    keep(space, out, bytes, steps)
+    let printed = make_printing(&space[..length], indent, request, nodes, comments, out);
+    keep(space, out, printed, steps)
 }
 
 // The calls of a list of requests, one by one.
@@ -354,6 +382,7 @@ fn make_all(
         accepted: 0,
         refused: 0,
         kept: 0,
+        same: true,
     };
     for k in 0..CALLS {
         let request = request_at(requests, k as usize * 4);
@@ -413,6 +442,16 @@ fn room_of(number: u32, length: usize) -> usize
     least(text * 4 + 200, SPACE)
 }
 
+impl Steps {
+    // With what was found the same, or not.
+    fn compared(mut self, same: bool) -> Steps {
+        if !same {
+            self.same = false;
+        }
+        self
+    }
+}
+
 impl Tally {
     fn new() -> Tally {
         Tally {
@@ -429,12 +468,7 @@ impl Tally {
         self.calls = plus(self.calls, CALLS);
         self.accepted = plus(self.accepted, steps.accepted);
         self.refused = plus(self.refused, steps.refused);
-        self
-    }
-
-    // With what was found alike.
-    fn compared(mut self, same: bool) -> Tally {
-        if !same {
+        if !steps.same {
             self.differing = more(self.differing);
         }
         self
@@ -513,24 +547,6 @@ fn stays(space: &mut [u8], other: &[u8], length: usize, number: u32, requests: &
     same_bytes(space, other)
 }
 
-// Whether two files and all that was lent to the calls are the same.
-fn same_memory(
-    space: &[u8],
-    other_space: &[u8],
-    nodes: &[u32],
-    other_nodes: &[u32],
-    comments: &[u32],
-    other_comments: &[u32],
-) -> bool {
-    if !same_bytes(space, other_space) {
-        return false;
-    }
-    if !same_numbers(nodes, other_nodes) {
-        return false;
-    }
-    same_numbers(comments, other_comments)
-}
-
 // Whether a printing was kept, of a text whose fields are numbered.
 fn must_stay(case: Case, steps: Steps) -> bool {
     if case.numbered { 0 < steps.kept } else { false }
@@ -543,18 +559,16 @@ fn compare_in(
     out: &mut [u8],
     spare_out: &mut [u8],
     text: &[u8],
-    case: Case,
-    tally: Tally,
-) -> Tally {
-    let number = case.number;
-    let requests = requests_for(needs_of(text, number % 10));
+    number: u32,
+    requests: &[u32],
+) -> Steps {
     let mut nodes: [u32; 9005] = [7; 9005];
     let mut comments: [u32; 1804] = [7; 1804];
     let length = run_calls(
         space,
         text,
         number,
-        &requests,
+        requests,
         &mut nodes,
         &mut comments,
         out,
@@ -565,29 +579,40 @@ fn compare_in(
         spare,
         text,
         number,
-        &requests,
+        requests,
         &mut spare_nodes,
         &mut spare_comments,
         spare_out,
     );
-    let same = same_memory(
-        space,
-        spare,
-        &nodes,
-        &spare_nodes,
-        &comments,
-        &spare_comments,
-    );
-    let mut now = tally.called(steps).compared(same);
-    now = now.compared(length == steps.length);
-    now = now.compared(same_bytes(out, spare_out));
+    steps
+        .compared(length == steps.length)
+        .compared(same_bytes(space, spare))
+        .compared(same_bytes(out, spare_out))
+        .compared(same_numbers(&nodes, &spare_nodes))
+        .compared(same_numbers(&comments, &spare_comments))
+}
+
+// Makes the calls of a text, compares, and makes them again if the file must stay.
+fn compare_parts(
+    space: &mut [u8],
+    spare: &mut [u8],
+    out: &mut [u8],
+    spare_out: &mut [u8],
+    text: &[u8],
+    case: Case,
+    tally: Tally,
+) -> Tally {
+    let number = case.number;
+    let requests = requests_for(needs_of(text, number % 10));
+    let steps = compare_in(space, spare, out, spare_out, text, number, &requests);
+    let now = tally.called(steps);
     if must_stay(case, steps) {
-        now = now.stayed(stays(space, spare, length, number, &requests));
+        return now.stayed(stays(space, spare, steps.length, number, &requests));
     }
     now
 }
 
-// Makes the calls of a text, and compares.
+// Makes the calls of a text in spaces of their own.
 fn compare_text(text: &[u8], case: Case, tally: Tally) -> Tally {
     let mut space: [u8; SPACE] = [7; SPACE];
     let mut spare: [u8; SPACE] = [7; SPACE];
@@ -595,7 +620,7 @@ fn compare_text(text: &[u8], case: Case, tally: Tally) -> Tally {
     let mut spare_out: [u8; SPACE] = [7; SPACE];
     let room = room_of(case.number, text.len());
     let lent = room_of(2, text.len());
-    compare_in(
+    compare_parts(
         &mut space[..room],
         &mut spare[..room],
         &mut out[..lent],

@@ -1,9 +1,9 @@
-use borrow.Author.Needs.{needs}
 -- `replay_calls::fill` meets its contract.
 use mathlib.Core.Path.{_≡_, _∙_}
 use native.Mathlib.Omega.{arith}
 use Prim.Native.Nat.{_-_}
 use lib.ListN.{length, length-set}
+use borrow.Author.Needs.{needs}
 use Rattle.replay_calls.proofs.fill.Statement.{statement}
 use Rattle.replay_calls.proofs.fill.Tie as tie
 

@@ -1,8 +1,8 @@
-use borrow.Author.Needs.{needs}
 -- `replay_calls::make_all` meets its contract. The invariant: all that is lent stays as long as it is.
 use mathlib.Core.Path.{_≡_, refl, _∙_}
 use Prim.Native.Nat.{_-_}
 use lib.ListN.{length}
+use borrow.Author.Needs.{needs}
 use Rattle.replay_calls.proofs.make_all.Statement.{statement}
 use Rattle.replay_calls.proofs.make_all.Tie as tie
 

@@ -6,63 +6,27 @@ use borrow.Author.Needs.{needs}
 use Rattle.replay_calls.proofs.make_call.Statement.{statement}
 use Rattle.replay_calls.proofs.make_call.Tie as tie
 
-slice-aggregate-read : tie.Need-slice-aggregate-read
-slice-aggregate-read c = sym (length-take-le _ _ (omega arith))
+slice-aggregate-make-reading : tie.Need-slice-aggregate-make-reading
+slice-aggregate-make-reading c = sym (length-take-le _ _ (omega arith))
 
-slice-aggregate-read-2 : tie.Need-slice-aggregate-read-2
-slice-aggregate-read-2 c = sym (length-take-le _ _ (omega arith))
-
-slice-aggregate-read-3 : tie.Need-slice-aggregate-read-3
-slice-aggregate-read-3 c = sym (length-take-le _ _ (omega arith))
-
-slice-aggregate-print : tie.Need-slice-aggregate-print
-slice-aggregate-print c = sym (length-take-le _ _ (omega arith))
-
-slice-aggregate-print-2 : tie.Need-slice-aggregate-print-2
-slice-aggregate-print-2 c = sym (length-take-le _ _ (omega arith))
-
-slice-aggregate-print-3 : tie.Need-slice-aggregate-print-3
-slice-aggregate-print-3 c = sym (length-take-le _ _ (omega arith))
-
-slice-aggregate-print-4 : tie.Need-slice-aggregate-print-4
-slice-aggregate-print-4 c = sym (length-take-le _ _ (omega arith))
+slice-aggregate-make-printing : tie.Need-slice-aggregate-make-printing
+slice-aggregate-make-printing c = sym (length-take-le _ _ (omega arith))
 
 pub make-call-spec : {M : Type 1} → statement M
 make-call-spec =
     tie.close
     (tie.spec
     (λ c κs. search needs)
-    (λ c κs. search needs)
-    (λ c κs. search needs)
     (λ c. search needs)
-    slice-aggregate-read
-    (λ c. search needs)
-    slice-aggregate-read-2
-    (λ c. search needs)
-    slice-aggregate-read-3
-    (λ c κs. search needs)
-    (λ c. search needs)
-    (λ c. search needs)
-    (λ c. search needs)
-    (λ c. search needs)
-    (λ c κs. search needs)
-    (λ c. search needs)
-    slice-aggregate-print
-    (λ c. search needs)
-    slice-aggregate-print-2
-    (λ c. search needs)
-    slice-aggregate-print-3
-    (λ c. search needs)
-    slice-aggregate-print-4
-    (λ c κs. search needs)
-    (λ c. search needs)
-    (λ c. search needs)
+    slice-aggregate-make-reading
     (λ c κs. search needs)
     (λ c. search needs)
     (λ c. search needs)
     (λ c. search needs)
     (λ c. search needs)
     (λ c. search needs)
+    slice-aggregate-make-printing
+    (λ c κs. search needs)
     (λ c κs. search needs)
     (λ c. search needs)
     (λ c. search needs)

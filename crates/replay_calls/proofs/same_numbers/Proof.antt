@@ -1,7 +1,7 @@
-use borrow.Author.Needs.{needs}
 -- `replay_calls::same_numbers` meets its contract.
 use Prim.Native.Nat.{_-_}
 use lib.ListN.{length}
+use borrow.Author.Needs.{needs}
 use Rattle.replay_calls.proofs.same_numbers.Statement.{statement}
 use Rattle.replay_calls.proofs.same_numbers.Tie as tie
 
