@@ -1,11 +1,2 @@
-pub mod Good
-pub mod Last
-pub mod Printed
-pub mod Shapes
-pub mod Rebuild
-pub mod Rebuilt
-pub mod Agreement
-pub mod Steps
-pub mod Demand
 pub mod Kept
 pub mod Stored

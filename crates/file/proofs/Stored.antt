@@ -1,23 +1,24 @@
 -- What the code of a call leaves in memory, and the turns of a run.
---     take-most, drop-most, most-long       so many of a slice, or as many as there are
+--     take-min, drop-min                    so many of a slice, or as many as there are
 --     read-is                               a reading
 --     store-refused, store-long, store-in   what is made the file
---     lent-long, written-in                 the lent output after a printing; what an accepted printing wrote lies in it
+--     lent-in, lent-long, written-in              the lent output after a printing; what an accepted printing wrote lies in it
 --     print-is                              a printing
 --     call-reads, call-prints               one call
---     turn, none-left                       a turn of a run, and its end
--- Assumes nothing.
+--     size-in, space-long                   after a call the file lies in its space, which is as long as it was
+--     started, turned-in, turn, none-left   the start of a run, a turn, its end
 use mathlib.Core.Path.{_≡_, refl, sym, ap, _∙_}
 use mathlib.Core.Bool.{Bool, true, false, cond, not, false≢true}
 use mathlib.Core.List.{List, [], _∷_, _++_}
-use Prim.Native.Nat.{ℕ, suc, _+_, _-_, _≤_, _<_}
+use Prim.Native.Nat.{ℕ, suc, _+_, _-_, _≤_, _<_, min}
 use native.Mathlib.Omega.{arith}
 use lib.Dec.{eqb, leb, ltb}
-use borrow.Author.Tests.{leb-true, leb-false, le-leb, lt-leb, eq-eqb, ne-eqb}
-use lib.ListN.{length, take, drop, getD, replicate, length-append, length-drop, drop-of-length-le}
+use borrow.Author.Tests.{leb-true, leb-false, le-leb, lt-leb}
+use lib.ListN.{length, take, drop, getD, replicate, length-append, length-take, length-drop, length-replicate, drop-of-length-le}
 use lib.Seq.{take-all, take-at, drop-cons, length-take-le}
 use Rattle.lexer.specs.Check.{checked}
 use Rattle.ast.specs.Records.{nodeRows, notes, room}
+use Rattle.steps.specs.Into.{wiped}
 use Rattle.parser.specs.declared.Answer.{Answer}
 use Rattle.parser.specs.Read.{Outcome, read, refused, Reading, reading}
 use Rattle.parser.specs.Read.{told as read-told}
@@ -26,68 +27,68 @@ use Rattle.writer.specs.declared.Printed.{Printed}
 use Rattle.writer.specs.declared.Printed.the-variants.{Accepted, Refused}
 use Rattle.writer.specs.Write as W
 use Rattle.writer.specs.Write.{Printing, told, outcomeAt, printOf, printing}
-use Rattle.file.specs.Calls.{has-printed, gives}
-use Rattle.file.specs.Run.{Request, ask, requestsOf, Memory, held, callOf, keptIn, settled, after, runs}
+use Rattle.demand.specs.Calls.{has-read, has-printed, gives}
+use Rattle.file.specs.Run.{Request, ask, requestsOf, File, fileOf, Memory, memory, callOf, keptIn, settled, after, runs}
 
 -- ---- so many of a slice, or as many as there are
 
-abbrev pub AtMost : ℕ → ℕ → ℕ → Type 0
-AtMost r n most = (r ≤ most) × (r ≤ n) × (most ≤ n → r ≡ most) × (n ≤ most → r ≡ n)
-
-module _ (r n : ℕ) (t : List ℕ) (h : AtMost r n (length t)) where
-  take-by : (b : Bool) → leb n (length t) ≡ b → take r t ≡ take n t
-  take-by true e = ap (λ (k : ℕ). take k t) (h .3 (leb-true _ _ e))
+module _ (n : ℕ) (t : List ℕ) where
+  take-by : (b : Bool) → leb n (length t) ≡ b → take (min n (length t)) t ≡ take n t
+  take-by true e =
+      let l : n ≤ length t = leb-true _ _ e in
+      let s : min n (length t) ≡ n = omega arith in
+      rw s
   take-by false e =
       let l : length t < n = leb-false _ _ e in
-      let s : r ≡ length t = h .2 (omega (arith, l)) in
-      take-all r t (omega (arith, s)) ∙ sym (take-all n t (omega (arith, l)))
+      take-all (min n (length t)) t (omega arith) ∙ sym (take-all n t (omega arith))
 
-  drop-by : (b : Bool) → leb n (length t) ≡ b → drop r t ≡ drop n t
-  drop-by true e = ap (λ (k : ℕ). drop k t) (h .3 (leb-true _ _ e))
+  drop-by : (b : Bool) → leb n (length t) ≡ b → drop (min n (length t)) t ≡ drop n t
+  drop-by true e =
+      let l : n ≤ length t = leb-true _ _ e in
+      let s : min n (length t) ≡ n = omega arith in
+      rw s
   drop-by false e =
       let l : length t < n = leb-false _ _ e in
-      let s : r ≡ length t = h .2 (omega (arith, l)) in
-      drop-of-length-le t {i = r} (omega (arith, s)) ∙ sym (drop-of-length-le t {i = n} (omega (arith, l)))
+      drop-of-length-le t {i = min n (length t)} (omega arith) ∙ sym (drop-of-length-le t {i = n} (omega arith))
 
-  pub take-most : take r t ≡ take n t
-  take-most = take-by _ refl
+  pub take-min : take (min n (length t)) t ≡ take n t
+  take-min = take-by _ refl
 
-  pub drop-most : drop r t ≡ drop n t
-  drop-most = drop-by _ refl
-
-  pub most-long : r ≡ length (take r t)
-  most-long = sym (length-take-le r t (h .0))
+  pub drop-min : drop (min n (length t)) t ≡ drop n t
+  drop-min = drop-by _ refl
 
 -- ---- read_file
 
-pub read-is : (space ns cs ns′ cs′ : List ℕ) (file a b n x y : ℕ) (r : Answer)
-    → AtMost n file (length space) → AtMost x a (length ns) → AtMost y b (length cs)
-    → read-told r ns′ cs′ ≡ reading (take n space) (take x ns) (take y cs)
-    → let w = reading (take file space) (take a ns) (take b cs) in
+pub read-is : (text ns cs ns′ cs′ : List ℕ) (a b x y : ℕ) (r : Answer)
+    → x ≡ min a (length ns) → y ≡ min b (length cs)
+    → read-told r ns′ cs′ ≡ reading text (take x ns) (take y cs)
+    → let w = reading text (take a ns) (take b cs) in
     (ns′ ++ drop x ns ≡ w .nodes ++ drop a ns) × (cs′ ++ drop y cs ≡ w .comments ++ drop b cs)
-read-is space ns cs ns′ cs′ file a b n x y r h k l e =
-    let q : read-told r ns′ cs′ ≡ reading (take file space) (take a ns) (take b cs) =
-    e ∙ rw (take-most n file space h, take-most x a ns k, take-most y b cs l) in (
-      rw (drop-most x a ns k) (ap (λ (w : Reading). w .nodes ++ drop a ns) q),
-      rw (drop-most y b cs l) (ap (λ (w : Reading). w .comments ++ drop b cs) q),
+read-is text ns cs ns′ cs′ a b x y r k l e =
+    let q : read-told r ns′ cs′ ≡ reading text (take a ns) (take b cs) = e ∙ rw (k, l, take-min a ns, take-min b cs) in (
+      rw (k, drop-min a ns) (ap (λ (w : Reading). w .nodes ++ drop a ns) q),
+      rw (l, drop-min b cs) (ap (λ (w : Reading). w .comments ++ drop b cs) q),
     )
 
 -- ---- store
 
-module _ (size : ℕ) (p : Printed) (out f : List ℕ) where
-  pub store-refused : (e l n : ℕ) → p ≡ Refused e l n → f ≡ keptIn size p out f
+module _ (p : Printed) (out : List ℕ) (f : File) where
+  pub store-refused : (e l n : ℕ) → p ≡ Refused e l n → f ≡ keptIn p out f
   unfolding keptIn
   store-refused e l n h = rw h
 
   module _ (n c b : ℕ) (h : p ≡ Accepted n c b) where
-    pub store-long : size < b → f ≡ keptIn size p out f
+    pub store-long : length (f .space) < b → f ≡ keptIn p out f
     unfolding keptIn
-    store-long l = rw (h, lt-leb b size l)
+    store-long l = rw (h, lt-leb b (length (f .space)) l)
 
-    pub store-in : (space space′ : List ℕ) → b ≤ size → b ≤ length out → space′ ≡ take b out ++ drop (length (take b out)) space
-        → take b space′ ≡ keptIn size p out f
-    unfolding keptIn
-    store-in space space′ l k e = rw (h, le-leb b size l, e) (take-at (take b out) (drop (length (take b out)) space) b (length-take-le b out k))
+    pub store-in : (copied space′ : List ℕ) → b ≤ length (f .space) → b ≤ length out → copied ≡ take b out ++ drop (length (take b out)) (f .space)
+        → length copied ≡ length (f .space) → space′ ≡ wiped b copied → fileOf b space′ ≡ keptIn p out f
+    unfolding keptIn wiped W.written
+    store-in copied space′ l k e s w =
+        let t : length (take b out) ≡ b = length-take-le b out k in
+        let u : take b copied ≡ take b out = ap (take b) e ∙ take-at (take b out) (drop (length (take b out)) (f .space)) b t in
+        rw (h, le-leb b (length (f .space)) l, w, u, s, t)
 
 -- ---- print_file
 
@@ -126,6 +127,9 @@ printing-in : (t : List ℕ) (indent : ℕ) (ns cs out : List ℕ) (n c b : ℕ)
 unfolding printing
 printing-in t indent ns cs out n c b h = says-in (outcomeAt indent (checked t) t) indent ns cs out n c b h
 
+pub lent-in : (z n most : ℕ) → z ≡ min n most → z ≤ most
+lent-in z n most h = omega arith
+
 -- the lent output, as the printing leaves it
 module _ (out out′ : List ℕ) (z : ℕ) (h : length out′ ≡ length (take z out)) (k : z ≤ length out) where
   lent-out : take z (out′ ++ drop z out) ≡ out′
@@ -141,32 +145,70 @@ module _ (out out′ : List ℕ) (z : ℕ) (h : length out′ ≡ length (take z
       rw lent-out
       (rw (ap (λ (w : Printing). w .output) e) (printing-in t indent ns cs (take z out) n c b (sym (ap (λ (w : Printing). w .says) e) ∙ q)))
 
-pub print-is : (space space′ ns ns′ cs cs′ out out′ : List ℕ) (file indent a b c n x y z r : ℕ) (p : Printed)
-    → AtMost n file (length space) → AtMost x a (length ns) → AtMost y b (length cs) → AtMost z c (length out)
+pub print-is : (space space′ ns ns′ cs cs′ out out′ : List ℕ) (file indent a b c x y z r : ℕ) (p : Printed)
+    → x ≡ min a (length ns) → y ≡ min b (length cs) → z ≡ min c (length out)
     → length out′ ≡ length (take z out)
-    → told p ns′ cs′ out′ ≡ printing (take n space) indent (take x ns) (take y cs) (take z out)
-    → take r space′ ≡ keptIn (length space) p (take z (out′ ++ drop z out)) (take n space)
-    → held r space′ (ns′ ++ drop x ns) (cs′ ++ drop y cs) (out′ ++ drop z out)
-    ≡ after (length space) indent (ask true a b c) (held file space ns cs out)
+    → told p ns′ cs′ out′ ≡ printing (take file space) indent (take x ns) (take y cs) (take z out)
+    → fileOf r space′ ≡ keptIn p (take z (out′ ++ drop z out)) (fileOf file space)
+    → memory r space′ (ns′ ++ drop x ns) (cs′ ++ drop y cs) (out′ ++ drop z out)
+    ≡ after indent (ask true a b c) (memory file space ns cs out)
 unfolding after settled callOf gives
-print-is space space′ ns ns′ cs cs′ out out′ file indent a b c n x y z r p h i j k l e s =
+print-is space space′ ns ns′ cs cs′ out out′ file indent a b c x y z r p i j k l e s =
     let q : told p ns′ cs′ out′ ≡ printing (take file space) indent (take a ns) (take b cs) (take c out) =
-    e ∙ rw (take-most n file space h, take-most x a ns i, take-most y b cs j, take-most z c out k) in
-    rw (s, lent-out out out′ z l (k .0), take-most n file space h, drop-most x a ns i, drop-most y b cs j, drop-most z c out k)
-    (ap (λ (w : Printing). settled (length space) (ask true a b c) (has-printed w) (held file space ns cs out)) q)
+    e ∙ rw (i, j, k, take-min a ns, take-min b cs, take-min c out) in
+    let f : fileOf r space′ ≡ keptIn p out′ (fileOf file space) =
+    s ∙ ap (λ (o : List ℕ). keptIn p o (fileOf file space)) (lent-out out out′ z l (omega arith)) in
+    ap (λ (g : File). record { file = g; nodes = ns′ ++ drop x ns; comments = cs′ ++ drop y cs; output = out′ ++ drop z out }) f
+    ∙ rw (i, j, k, drop-min a ns, drop-min b cs, drop-min c out)
+    (ap (λ (w : Printing). settled (ask true a b c) (has-printed w) (memory file space ns cs out)) q)
 
 -- ---- call
 
-module _ (indent kind a b c : ℕ) (file : ℕ) (space ns cs out : List ℕ) where
-  pub call-reads : (ns′ cs′ : List ℕ) → kind ≡ 0
+module _ (indent a b c : ℕ) (file : ℕ) (space ns cs out : List ℕ) where
+  pub call-reads : (prints : Bool) (ns′ cs′ : List ℕ) → prints ≡ false
       → let w = reading (take file space) (take a ns) (take b cs) in (ns′ ≡ w .nodes ++ drop a ns) × (cs′ ≡ w .comments ++ drop b cs)
-      → held file space ns′ cs′ out ≡ after (length space) indent (ask (not (eqb kind 0)) a b c) (held file space ns cs out)
+      → memory file space ns′ cs′ out ≡ after indent (ask prints a b c) (memory file space ns cs out)
   unfolding after settled callOf gives
-  call-reads ns′ cs′ h e = rw (eq-eqb kind 0 h, e .0, e .1)
+  call-reads prints ns′ cs′ h e = rw (h, e .0, e .1)
 
-  pub call-prints : (m : Memory) → (kind ≡ 0 → ⊥) → m ≡ after (length space) indent (ask true a b c) (held file space ns cs out)
-      → m ≡ after (length space) indent (ask (not (eqb kind 0)) a b c) (held file space ns cs out)
-  call-prints m h e = rw (ne-eqb kind 0 h) e
+  pub call-prints : (prints : Bool) (m : Memory) → prints ≡ true → m ≡ after indent (ask true a b c) (memory file space ns cs out)
+      → m ≡ after indent (ask prints a b c) (memory file space ns cs out)
+  call-prints prints m h e = rw h e
+
+-- the file lies in its space, which stays as long as it is
+written-long : (n c b : ℕ) (out s : List ℕ) → b ≤ length s → length (W.written (Accepted n c b) (take b out) s) ≡ length s
+unfolding W.written
+written-long n c b out s h = simp (length-append, length-replicate, length-take) (omega arith)
+
+module _ (f : File) where
+  size-by : (b : ℕ) (s : List ℕ) (x : Bool) → leb b (length (f .space)) ≡ x → f .size ≤ length (f .space) → cond x (fileOf b s) f .size ≤ length (f .space)
+  size-by b s true e h = leb-true _ _ e
+  size-by b s false e h = h
+
+  space-by : (n c b : ℕ) (out : List ℕ) (x : Bool) → leb b (length (f .space)) ≡ x
+      → length (cond x (fileOf b (W.written (Accepted n c b) (take b out) (f .space))) f .space) ≡ length (f .space)
+  space-by n c b out true e = written-long n c b out (f .space) (leb-true _ _ e)
+  space-by n c b out false e = refl
+
+  kept-size : (p : Printed) (out : List ℕ) → f .size ≤ length (f .space) → keptIn p out f .size ≤ length (f .space)
+  unfolding keptIn
+  kept-size (Refused e p n) out h = h
+  kept-size (Accepted n c b) out h = size-by b _ _ refl h
+
+  kept-space : (p : Printed) (out : List ℕ) → length (keptIn p out f .space) ≡ length (f .space)
+  unfolding keptIn
+  kept-space (Refused e p n) out = refl
+  kept-space (Accepted n c b) out = space-by n c b out _ refl
+
+pub size-in : (indent : ℕ) (q : Request) (m : Memory) → m .file .size ≤ length (m .file .space) → after indent q m .file .size ≤ length (m .file .space)
+unfolding after settled callOf gives
+size-in indent (ask true a b c) m h = kept-size (m .file) _ _ h
+size-in indent (ask false a b c) m h = h
+
+pub space-long : (indent : ℕ) (q : Request) (m : Memory) → length (after indent q m .file .space) ≡ length (m .file .space)
+unfolding after settled callOf gives
+space-long indent (ask true a b c) m = kept-space (m .file) _ _
+space-long indent (ask false a b c) m = refl
 
 -- ---- run
 
@@ -192,17 +234,25 @@ few-left (k ∷ a ∷ []) h = refl
 few-left (k ∷ a ∷ b ∷ []) h = refl
 few-left (k ∷ a ∷ b ∷ c ∷ r) h = absurd (omega arith)
 
-module _ (size indent i : ℕ) (r : List ℕ) (m m′ : Memory) where
-  pub turn : i + 4 ≤ length r → runs size indent (requestsOf (drop i r)) m ≡ m′
-      → (next : Memory) (now : ℕ) → now ≡ size → next ≡ after now indent (ask (not (eqb (getD r i 0) 0)) (getD r (i + 1) 0) (getD r (i + 2) 0) (getD r (i + 3) 0)) m
-      → runs size indent (requestsOf (drop (i + 4) r)) next ≡ m′
+pub started : (n file indent : ℕ) (r space ns cs out : List ℕ) → n ≡ min file (length space)
+    → runs indent (requestsOf r) (memory n space ns cs out) ≡ runs indent (requestsOf r) (memory (min file (length space)) space ns cs out)
+started n file indent r space ns cs out h = rw h
+
+pub turned-in : (indent : ℕ) (q : Request) (m next : Memory) → m .file .size ≤ length (m .file .space) → next ≡ after indent q m
+    → length (next .file .space) ≡ length (m .file .space) → next .file .size ≤ length (next .file .space)
+turned-in indent q m next h e l = rw (ap (λ (x : Memory). x .file .size) e, l) (size-in indent q m h)
+
+module _ (indent i : ℕ) (r : List ℕ) (m m′ : Memory) where
+  pub turn : i + 4 ≤ length r → runs indent (requestsOf (drop i r)) m ≡ m′
+      → (next : Memory) (q : Request) → q ≡ ask (not (eqb (getD r i 0) 0)) (getD r (i + 1) 0) (getD r (i + 2) 0) (getD r (i + 3) 0) → next ≡ after indent q m
+      → runs indent (requestsOf (drop (i + 4) r)) next ≡ m′
   unfolding runs
-  turn h e next now l f =
-      ap (runs size indent (requestsOf (drop (i + 4) r))) (f ∙ rw l)
-      ∙ sym (ap (λ (qs : List Request). runs size indent qs m) (request-at i r h))
+  turn h e next q l f =
+      ap (runs indent (requestsOf (drop (i + 4) r))) (f ∙ ap (λ (x : Request). after indent x m) l)
+      ∙ sym (ap (λ (qs : List Request). runs indent qs m) (request-at i r h))
       ∙ e
 
-  pub none-left : length r < i + 4 → runs size indent (requestsOf (drop i r)) m ≡ m′ → m ≡ m′
+  pub none-left : length r < i + 4 → runs indent (requestsOf (drop i r)) m ≡ m′ → m ≡ m′
   unfolding runs
   none-left h e =
-      sym (ap (λ (qs : List Request). runs size indent qs m) (few-left (drop i r) (omega (arith, length-drop i r)))) ∙ e
+      sym (ap (λ (qs : List Request). runs indent qs m) (few-left (drop i r) (omega (arith, length-drop i r)))) ∙ e

@@ -1,4 +1,1 @@
-pub mod Agree
-pub mod Calls
-pub mod Demand
 pub mod Run

@@ -3,36 +3,57 @@
 ghost use mathlib.Core.Path.{_≡_};
 ghost use mathlib.Core.Bool.{true, not};
 ghost use mathlib.Core.List.{_++_};
-ghost use Prim.Native.Nat.{ℕ, _≤_};
+ghost use Prim.Native.Nat.{ℕ, _+_, _≤_, min};
 ghost use lib.Dec.{eqb};
-ghost use lib.ListN.{length, take, drop};
+ghost use lib.ListN.{length, take, drop, getD};
 ghost use Rattle.parser.specs.Read.{reading};
-ghost use Rattle.file.specs.Run.{ask, requestsOf, held, keptIn, after, runs, Unaltered};
+ghost use Rattle.file.specs.Run.{ask, requestsOf, fileOf, memory, keptIn, after, runs, Unaltered};
 ghost use Rattle.writer.specs.declared.Printed.the-variants.{Accepted};
 use writer::Printed;
 
+// A reading or a printing, and how many numbers of each table and bytes of the output it is lent.
+struct Request {
+    prints: bool,
+    nodes: usize,
+    comments: usize,
+    out: usize,
+}
+
 // So many, or as many as there are.
 fn at_most(count: usize, there: usize) -> usize
-    ensures { λ r. ⌜ (r ≤ there) × (r ≤ count) × (there ≤ count → r ≡ there) × (count ≤ there → r ≡ count) ⌝ }
+    ensures { λ r. ⌜ r ≡ min count there ⌝ }
 {
     if count < there { count } else { there }
 }
 
-// A reading of the file, lent the first a numbers of one table and b of the other.
-fn read_file(space: &[u8], file: usize, nodes: &mut [u32], comments: &mut [u32], a: usize, b: usize)
-    ensures { λ _. ⌜ (now (nodes .exit) ≡ reading (take file (now (space .entry))) (take a (now (nodes .entry))) (take b (now (comments .entry))) .nodes ++ drop a (now (nodes .entry)))
-        × (now (comments .exit) ≡ reading (take file (now (space .entry))) (take a (now (nodes .entry))) (take b (now (comments .entry))) .comments ++ drop b (now (comments .entry))) ⌝ }
+// The request whose four numbers start at an index.
+fn request_at(requests: &[u32], i: usize) -> Request
+    requires { ⌜ i + 4 ≤ length (now requests) ⌝ }
+    ensures { λ r. ⌜ ask (r .prints) (r .nodes) (r .comments) (r .out)
+        ≡ ask (not (eqb (getD (now (requests .entry)) i 0) 0)) (getD (now (requests .entry)) (i + 1) 0) (getD (now (requests .entry)) (i + 2) 0) (getD (now (requests .entry)) (i + 3) 0) ⌝ }
 {
-    let n = at_most(file, space.len());
-    let x = at_most(a, nodes.len());
-    let y = at_most(b, comments.len());
-    reader::read(&space[..n], &mut nodes[..x], &mut comments[..y]);
+    Request {
+        prints: requests[i] != 0,
+        nodes: requests[i + 1] as usize,
+        comments: requests[i + 2] as usize,
+        out: requests[i + 3] as usize,
+    }
 }
 
-// Makes the printed bytes the file, if its space holds them.
+// A reading of the file, lent what the request asks for.
+fn read_file(text: &[u8], request: Request, nodes: &mut [u32], comments: &mut [u32])
+    ensures { λ _. ⌜ (now (nodes .exit) ≡ reading (now (text .entry)) (take (request .nodes) (now (nodes .entry))) (take (request .comments) (now (comments .entry))) .nodes ++ drop (request .nodes) (now (nodes .entry)))
+        × (now (comments .exit) ≡ reading (now (text .entry)) (take (request .nodes) (now (nodes .entry))) (take (request .comments) (now (comments .entry))) .comments ++ drop (request .comments) (now (comments .entry))) ⌝ }
+{
+    let a = at_most(request.nodes, nodes.len());
+    let b = at_most(request.comments, comments.len());
+    reader::read(text, &mut nodes[..a], &mut comments[..b]);
+}
+
+// Makes printed bytes the file, with 0 behind them, if its space holds them; the length of the file afterwards.
 fn store(space: &mut [u8], file: usize, printed: Printed, out: &[u8]) -> usize
     requires { ⌜ ((n c b : ℕ) → printed ≡ Accepted n c b → b ≤ length (now out)) ⌝ }
-    ensures { λ r. ⌜ take r (now (space .exit)) ≡ keptIn (length (now (space .entry))) printed (now (out .entry)) (take file (now (space .entry))) ⌝ }
+    ensures { λ r. ⌜ fileOf r (now (space .exit)) ≡ keptIn printed (now (out .entry)) (fileOf file (now (space .entry))) ⌝ }
 {
     let Printed::Accepted {
         nodes: _,
@@ -46,36 +67,35 @@ fn store(space: &mut [u8], file: usize, printed: Printed, out: &[u8]) -> usize
         return file;
     }
     cursor::copy(space, &out[..bytes]);
+    printer::clear(space, bytes);
     bytes
 }
 
-// A printing of the file; the length of the file afterwards.
+// A printing of the file, lent what the request asks for; the length of the file afterwards.
 fn print_file(
     space: &mut [u8],
     file: usize,
     indent: u32,
+    request: Request,
     nodes: &mut [u32],
     comments: &mut [u32],
     out: &mut [u8],
-    a: usize,
-    b: usize,
-    c: usize,
 ) -> usize
-    ensures { λ r. ⌜ held r (now (space .exit)) (now (nodes .exit)) (now (comments .exit)) (now (out .exit))
-        ≡ after (length (now (space .entry))) indent (ask true a b c) (held file (now (space .entry)) (now (nodes .entry)) (now (comments .entry)) (now (out .entry))) ⌝ }
+    requires { ⌜ file ≤ length (now space) ⌝ }
+    ensures { λ r. ⌜ memory r (now (space .exit)) (now (nodes .exit)) (now (comments .exit)) (now (out .exit))
+        ≡ after indent (ask true (request .nodes) (request .comments) (request .out)) (memory file (now (space .entry)) (now (nodes .entry)) (now (comments .entry)) (now (out .entry))) ⌝ }
 {
-    let n = at_most(file, space.len());
-    let x = at_most(a, nodes.len());
-    let y = at_most(b, comments.len());
-    let z = at_most(c, out.len());
+    let a = at_most(request.nodes, nodes.len());
+    let b = at_most(request.comments, comments.len());
+    let c = at_most(request.out, out.len());
     let printed = printer::print(
-        &space[..n],
+        &space[..file],
         indent,
-        &mut nodes[..x],
-        &mut comments[..y],
-        &mut out[..z],
+        &mut nodes[..a],
+        &mut comments[..b],
+        &mut out[..c],
     );
-    store(space, n, printed, &out[..z])
+    store(space, file, printed, &out[..c])
 }
 
 // One call; the length of the file afterwards.
@@ -83,32 +103,21 @@ fn call(
     space: &mut [u8],
     file: usize,
     indent: u32,
-    kind: u32,
+    request: Request,
     nodes: &mut [u32],
     comments: &mut [u32],
     out: &mut [u8],
-    a: u32,
-    b: u32,
-    c: u32,
 ) -> usize
-    ensures { λ r. ⌜ held r (now (space .exit)) (now (nodes .exit)) (now (comments .exit)) (now (out .exit))
-        ≡ after (length (now (space .entry))) indent (ask (not (eqb kind 0)) a b c) (held file (now (space .entry)) (now (nodes .entry)) (now (comments .entry)) (now (out .entry))) ⌝ }
+    requires { ⌜ file ≤ length (now space) ⌝ }
+    ensures { λ r. ⌜ memory r (now (space .exit)) (now (nodes .exit)) (now (comments .exit)) (now (out .exit))
+        ≡ after indent (ask (request .prints) (request .nodes) (request .comments) (request .out)) (memory file (now (space .entry)) (now (nodes .entry)) (now (comments .entry)) (now (out .entry))) ⌝ }
 {
-    if kind == 0 {
-        read_file(space, file, nodes, comments, a as usize, b as usize);
-        return file;
+    let prints = request.prints;
+    if prints {
+        return print_file(space, file, indent, request, nodes, comments, out);
     }
-    print_file(
-        space,
-        file,
-        indent,
-        nodes,
-        comments,
-        out,
-        a as usize,
-        b as usize,
-        c as usize,
-    )
+    read_file(&space[..file], request, nodes, comments);
+    file
 }
 
 // Readings and printings of the file in the first bytes of its space, one after another; the length of the file afterwards.
@@ -122,24 +131,21 @@ pub fn run(
     comments: &mut [u32],
     out: &mut [u8],
 ) -> usize
-    ensures { λ r. ⌜ (held r (now (space .exit)) (now (nodes .exit)) (now (comments .exit)) (now (out .exit))
-        ≡ runs (length (now (space .entry))) indent (requestsOf (now (requests .entry))) (held file (now (space .entry)) (now (nodes .entry)) (now (comments .entry)) (now (out .entry))))
-        × Unaltered (length (now (space .entry))) indent (requestsOf (now (requests .entry))) (held file (now (space .entry)) (now (nodes .entry)) (now (comments .entry)) (now (out .entry))) (take r (now (space .exit))) ⌝ }
+    ensures { λ r. ⌜ (memory r (now (space .exit)) (now (nodes .exit)) (now (comments .exit)) (now (out .exit))
+        ≡ runs indent (requestsOf (now (requests .entry))) (memory (min file (length (now (space .entry)))) (now (space .entry)) (now (nodes .entry)) (now (comments .entry)) (now (out .entry))))
+        × Unaltered indent (requestsOf (now (requests .entry))) (memory (min file (length (now (space .entry)))) (now (space .entry)) (now (nodes .entry)) (now (comments .entry)) (now (out .entry))) (take r (now (space .exit))) ⌝ }
 {
-    let mut length = file;
+    let mut length = at_most(file, space.len());
     let mut i: usize = 0;
     while i + 4 <= requests.len() {
         length = call(
             space,
             length,
             indent,
-            requests[i],
+            request_at(requests, i),
             nodes,
             comments,
             out,
-            requests[i + 1],
-            requests[i + 2],
-            requests[i + 3],
         );
         i += 4;
     }

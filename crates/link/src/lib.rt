@@ -1,10 +1,13 @@
 // What C and Rust programs link: numbers and lent slices only.
 ghost use mathlib.Core.Path.{_≡_};
+ghost use Prim.Native.Nat.{min};
+ghost use lib.ListN.{length, take};
 ghost use Rattle.lexer.specs.Outcome.{numbers};
 ghost use Rattle.lexer.specs.Check.{checked};
 ghost use Rattle.parser.specs.Read.{reading};
 ghost use Rattle.writer.specs.Write.{printing};
 ghost use Rattle.place.specs.Place.{placeOf};
+ghost use Rattle.file.specs.Run.{requestsOf, memory, runs, Unaltered};
 ghost use Rattle.link.specs.Told.{laid, three};
 use lexer::Checked;
 use parser::Answer;
@@ -139,4 +142,23 @@ pub extern "C" fn hirvelan_print(
             fill_u64(answer, &told);
         }
     }
+}
+
+// Readings and printings, one after another, of one file: the first bytes of its space. The length of the file afterwards.
+// A request is four numbers: 0 for a reading, else a printing; how much of both tables and of the output the call is lent.
+#[no_mangle]
+pub extern "C" fn hirvelan_run(
+    space: &mut [u8],
+    file: usize,
+    indent: u32,
+    requests: &[u32],
+    nodes: &mut [u32],
+    comments: &mut [u32],
+    out: &mut [u8],
+) -> usize
+    ensures { λ r. ⌜ (memory r (now (space .exit)) (now (nodes .exit)) (now (comments .exit)) (now (out .exit))
+        ≡ runs indent (requestsOf (now (requests .entry))) (memory (min file (length (now (space .entry)))) (now (space .entry)) (now (nodes .entry)) (now (comments .entry)) (now (out .entry))))
+        × Unaltered indent (requestsOf (now (requests .entry))) (memory (min file (length (now (space .entry)))) (now (space .entry)) (now (nodes .entry)) (now (comments .entry)) (now (out .entry))) (take r (now (space .exit))) ⌝ }
+{
+    file::run(space, file, indent, requests, nodes, comments, out)
 }

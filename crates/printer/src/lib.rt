@@ -10,7 +10,7 @@ use parser::Answer;
 use writer::Printed;
 
 // Bytes become 0 from an index on.
-fn clear(bytes: &mut [u8], from: usize)
+pub fn clear(bytes: &mut [u8], from: usize)
     requires { ⌜ from ≤ length (now bytes) ⌝ }
     ensures { λ _. ⌜ now (bytes .exit) ≡ wiped from (now (bytes .entry)) ⌝ }
 {

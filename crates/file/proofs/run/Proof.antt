@@ -1,11 +1,11 @@
--- `file::run` meets its contract. The invariant: the requests left, from here, make what all of them make. Assumes nothing.
+-- `file::run` meets its contract. The invariant: the requests left, from here, make what all of them make, and the file lies in its space.
 use mathlib.Core.Path.{_≡_, refl, ap, _∙_}
-use Prim.Native.Nat.{_≤_, _-_}
+use Prim.Native.Nat.{_≤_, _-_, min}
 use native.Mathlib.Omega.{arith}
 use borrow.Author.Needs.{needs}
 use lib.ListN.{length, drop}
-use Rattle.file.specs.Run.{Memory, held, requestsOf, runs}
-use Rattle.file.proofs.Stored.{turn, none-left}
+use Rattle.file.specs.Run.{Memory, memory, bytesOf, requestsOf, runs}
+use Rattle.file.proofs.Stored.{lent-in, started, turned-in, turn, none-left}
 use Rattle.file.proofs.Kept.{run-kept}
 use Rattle.file.proofs.run.Statement.{statement}
 use Rattle.file.proofs.run.Tie as tie
@@ -17,39 +17,31 @@ Inv-loop space₀ file indent requests nodes₀ comments₀ out₀ size₀ i₀ 
     × (length nodes ≡ length nodes₀)
     × (length comments ≡ length comments₀)
     × (length out ≡ length out₀)
-    × (runs (length space₀) indent (requestsOf (drop i requests)) (held size space nodes comments out)
-    ≡ runs (length space₀) indent (requestsOf requests) (held file space₀ nodes₀ comments₀ out₀))
+    × (size ≤ length space)
+    × (runs indent (requestsOf (drop i requests)) (memory size space nodes comments out)
+    ≡ runs indent (requestsOf requests) (memory (min file (length space₀)) space₀ nodes₀ comments₀ out₀))
 
 abbrev μ-loop : tie.MeasureT-loop
 μ-loop space₀ file indent requests nodes₀ comments₀ out₀ size₀ i₀ space nodes comments out size i = length requests - i
 
 loop-holds : tie.Need-loop-holds Inv-loop μ-loop
-loop-holds c = (omega arith, refl, refl, refl, refl, refl)
-
-shared-slice-read-call : tie.Need-shared-slice-read-call Inv-loop μ-loop
-shared-slice-read-call c = omega (arith, c .before .before .loop-test .taken)
-
-shared-slice-read-call-2 : tie.Need-shared-slice-read-call-2 Inv-loop μ-loop
-shared-slice-read-call-2 c = omega (arith, c .before .before .before .before .before .before .loop-test .taken)
-
-shared-slice-read-call-3 : tie.Need-shared-slice-read-call-3 Inv-loop μ-loop
-shared-slice-read-call-3 c = omega (arith, c .before .before .before .before .before .before .before .loop-test .taken)
-
-shared-slice-read-call-4 : tie.Need-shared-slice-read-call-4 Inv-loop μ-loop
-shared-slice-read-call-4 c = omega (arith, c .before .before .before .before .before .before .before .before .loop-test .taken)
+loop-holds c = (omega arith, refl, refl, refl, refl, lent-in _ _ _ (c .at-most .ensures), started _ _ _ _ _ _ _ _ (c .at-most .ensures))
 
 loop-less : tie.Need-loop-less Inv-loop μ-loop
-loop-less c = omega (arith, c .before .before .before .before .before .before .before .before .before .before .before .before .before .before .before .before .before .loop-test .taken)
+loop-less c = omega (arith, c .before .before .before .before .before .before .before .before .before .before .before .before .before .before .loop-test .taken)
 
 loop-again : tie.Need-loop-again Inv-loop μ-loop
 loop-again c =
-    let l = c .before .before .before .before .before .before .before .before .before .before .before .before .before .before .before .before .before .before .loop in (
-      c .before .before .before .before .before .before .before .before .before .before .before .before .before .before .before .before .before .loop-test .taken,
-      c .before .before .before .before .before .before .before .before .call .kept .0 ∙ l .inv .1,
-      c .before .before .before .before .before .before .before .before .call .kept .1 .1 .1 .1 .0 ∙ l .inv .2,
-      c .before .before .before .before .before .before .before .before .call .kept .1 .1 .1 .1 .1 .0 ∙ l .inv .3,
-      c .before .before .before .before .before .before .before .before .call .kept .1 .1 .1 .1 .1 .1 .0 ∙ l .inv .4,
-      turn _ _ _ _ (held (l .length) (l .space) (l .nodes) (l .comments) (l .out)) _ (c .before .before .before .before .before .before .before .before .before .before .before .before .before .before .before .before .before .loop-test .taken) (l .inv .5) _ _ (l .inv .1) (c .before .before .before .before .before .before .before .before .call .ensures),
+    let l = c .before .before .before .before .before .before .before .before .before .before .before .before .before .before .before .loop in
+    let r = c .before .before .before .before .before .before .before .before .before .before .before .before .request-at in
+    let k = c .before .before .before .before .before .before .before .before .call in (
+      c .before .before .before .before .before .before .before .before .before .before .before .before .before .before .loop-test .taken,
+      k .kept .0 ∙ l .inv .1,
+      k .kept .1 .1 .1 .1 .0 ∙ l .inv .2,
+      k .kept .1 .1 .1 .1 .1 .0 ∙ l .inv .3,
+      k .kept .1 .1 .1 .1 .1 .1 .0 ∙ l .inv .4,
+      turned-in _ _ (memory (l .length) (l .space) (l .nodes) (l .comments) (l .out)) _ (l .inv .5) (k .ensures) (k .kept .0),
+      turn _ _ _ (memory (l .length) (l .space) (l .nodes) (l .comments) (l .out)) _ (c .before .before .before .before .before .before .before .before .before .before .before .before .before .before .loop-test .taken) (l .inv .6) _ _ (r .ensures) (k .ensures),
     )
 
 same-length : tie.Need-same-length Inv-loop μ-loop
@@ -66,8 +58,9 @@ same-length-4 c = c .before .loop .inv .4
 
 returns : tie.Need-returns Inv-loop μ-loop
 returns c =
-    let e = none-left _ _ _ _ (held (c .before .loop .length) (c .before .loop .space) (c .before .loop .nodes) (c .before .loop .comments) (c .before .loop .out)) _ (c .loop-test .left) (c .before .loop .inv .5) in
-    (e, run-kept _ _ _ _ _ (ap (λ (m : Memory). m .file) e))
+    let l = c .before .loop in
+    let e = none-left _ _ _ (memory (l .length) (l .space) (l .nodes) (l .comments) (l .out)) _ (c .loop-test .left) (l .inv .6) in
+    (e, run-kept _ _ _ _ (ap (λ (m : Memory). bytesOf (m .file)) e))
 
 pub run-spec : {M : Type 1} → statement M
 run-spec =
@@ -75,19 +68,10 @@ run-spec =
     (tie.spec
     Inv-loop
     μ-loop
+    (λ c κs. search needs)
     loop-holds
     (λ c. search needs)
-    (λ c. search needs)
-    shared-slice-read-call
-    (λ c. search needs)
-    (λ c. search needs)
-    shared-slice-read-call-2
-    (λ c. search needs)
-    (λ c. search needs)
-    shared-slice-read-call-3
-    (λ c. search needs)
-    (λ c. search needs)
-    shared-slice-read-call-4
+    (λ c κs. search needs)
     (λ c κs. search needs)
     (λ c. search needs)
     loop-less

@@ -1,6 +1,5 @@
 -- The last token of a print does not end at offset 1: each definition has a keyword, and a keyword is longer than one byte.
 --     print-far     for every list of definitions
--- Assumes nothing.
 use mathlib.Core.Path.{_≡_, refl, ap, _∙_}
 use mathlib.Core.Bool.{Bool, true, false, cond, false≢true}
 use mathlib.Core.List.{List, [], _∷_}

@@ -5,7 +5,6 @@
 --     print-reads    its print's tokens read back
 --     print-parsed   its print is read, to the same but for places and what parameters drop
 --     print-again    so it is accepted
--- Assumes nothing.
 use mathlib.Core.Path.{_≡_, refl, sym, ap, _∙_}
 use mathlib.Core.Bool.{Bool, true, false, false≢true}
 use mathlib.Core.List.{List, []}
@@ -36,8 +35,8 @@ use Rattle.writer.proofs.Toks.{Good}
 use Rattle.writer.proofs.Lexes.{lexes, fine-print}
 use Rattle.writer.proofs.Apart.{pieces-apart}
 use Rattle.writer.proofs.Back.{document-rt}
-use Rattle.file.proofs.Good.{good-tokens}
-use Rattle.file.proofs.Last.{print-far}
+use Rattle.demand.proofs.Good.{good-tokens}
+use Rattle.demand.proofs.Last.{print-far}
 
 -- a text passes 20 to 22, and its tokens read as ds
 pub record Taken (t : List ℕ) (ds : List Definition) : Type 0 where

@@ -1,4 +1,4 @@
--- When the definitions of two files agree, in document 01's words ("Printing"). Assumes nothing: these are definitions.
+-- When the definitions of two files agree, in document 01's words ("Printing").
 use mathlib.Core.Path.{_≡_}
 use mathlib.Core.Bool.{Bool, cond, _||_, _&&_}
 use mathlib.Core.List.{List, []}

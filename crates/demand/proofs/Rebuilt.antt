@@ -1,7 +1,6 @@
 -- Well-formed definitions, made again of their shapes, are the same without places.
 --     rebuilt        for every list of them
 --     rebuild-back   after the drop of what parameters drop
--- Assumes nothing.
 use mathlib.Core.Path.{_≡_, refl, sym, ap, _∙_}
 use mathlib.Core.Bool.{Bool, true, false, cond, not}
 use mathlib.Core.List.{List, [], _∷_}
@@ -101,9 +100,9 @@ use Rattle.parser.proofs.Wf as W
 use Rattle.parser.proofs.Wf.{most, Tok}
 use Rattle.parser.proofs.KindLaws.{one-kind}
 use Rattle.writer.proofs.Toks.{Good}
-use Rattle.file.specs.Agree.{Shape, shape, no-shape, bytesCount, noteBytes, shapeOf, shapesOf}
+use Rattle.demand.specs.Agree.{Shape, shape, no-shape, bytesCount, noteBytes, shapeOf, shapesOf}
 use Rattle.token.proofs.Keyword.{only, none-has, keyword-bytes, hit-first}
-use Rattle.file.proofs.Rebuild.{
+use Rattle.demand.proofs.Rebuild.{
   kindBy,
   spelled,
   leafOf,

@@ -1,6 +1,5 @@
 -- Definitions without places, made again of their shapes. What shapes that no definition has give does not matter.
 --     rebuild   the definitions
--- Assumes nothing.
 use mathlib.Core.Bool.{Bool, true, cond, not, _&&_, _||_}
 use mathlib.Core.List.{List, [], _∷_}
 use mathlib.Core.Option.{Option, some, none}
@@ -60,7 +59,7 @@ use Rattle.ast.specs.Ast.{
   Service,
 }
 use Rattle.ast.proofs.Forget.{nowhere}
-use Rattle.file.specs.Agree.{Shape, shape, Shapes, no-shape, and-shape}
+use Rattle.demand.specs.Agree.{Shape, shape, Shapes, no-shape, and-shape}
 
 -- ---- lexemes
 

@@ -2,7 +2,6 @@
 --     print-fixed    the print of an accepted, numbered text is accepted, has the same definitions, and is its own print
 --     print-alike    two numbered texts print alike exactly when their definitions agree
 --     demand-3       all of it, for every text, indent and list of calls
--- Assumes nothing.
 use mathlib.Core.Path.{_≡_, refl, sym, ap, _∙_}
 use mathlib.Core.List.{List, []}
 use Prim.Native.Nat.{ℕ}
@@ -21,10 +20,10 @@ use Rattle.parser.specs.Definitions.{parseDocument}
 use Rattle.parser.specs.Read.{read, outcome}
 use Rattle.writer.specs.Print.{printed}
 use Rattle.writer.proofs.Places.{print-forget, print-drop}
-use Rattle.file.specs.Demand.{Premise, Fixed, Alike, Demand3}
-use Rattle.file.proofs.Printed.{well-read, print-reads, print-again, results}
-use Rattle.file.proofs.Agreement.{agree-of-same, same-of-agree}
-use Rattle.file.proofs.Steps.{accepts-reads, reads-accepts, stays-calls}
+use Rattle.demand.specs.Demand.{Premise, Fixed, Alike, Demand3}
+use Rattle.demand.proofs.Printed.{well-read, print-reads, print-again, results}
+use Rattle.demand.proofs.Agreement.{agree-of-same, same-of-agree}
+use Rattle.demand.proofs.Steps.{accepts-reads, reads-accepts, stays-calls}
 
 -- what the same tree but for places is, once the drop is made in both
 dropped-same : (xs ds : List Definition) → forget xs ≡ forget (maps dropParams ds) → forget (maps dropParams xs) ≡ forget (maps dropParams ds)

@@ -3,7 +3,6 @@
 --     gives-answers                  a call answers for the definitions of the file
 --     leaves-print                   an accepted printing leaves their print, any other call the file
 --     stays-calls                    so the file stays
--- Assumes nothing.
 use mathlib.Core.Path.{_≡_, refl, sym, ap, _∙_}
 use mathlib.Core.Bool.{Bool, true, false, cond, _||_, false≢true}
 use mathlib.Core.List.{List, [], _∷_}
@@ -22,9 +21,9 @@ use Rattle.writer.specs.Print.{printed}
 use Rattle.writer.specs.declared.Printed.the-variants.{Accepted, Refused}
 use Rattle.writer.specs.Write as W
 use Rattle.writer.specs.Write.{widest, outcomeAt, printing, printOf}
-use Rattle.file.specs.Agree.{Agree}
-use Rattle.file.specs.Calls.{Call, reads, prints, gives, kept, leaves, trace}
-use Rattle.file.specs.Demand.{Accepts, answers, accepts, printsIt, Step, Stays, end, call}
+use Rattle.demand.specs.Agree.{Agree}
+use Rattle.demand.specs.Calls.{Call, reads, prints, gives, kept, leaves, trace}
+use Rattle.demand.specs.Demand.{Accepts, answers, accepts, printsIt, Step, Stays, end, call}
 
 -- ---- acceptance at an indent
 

@@ -1,4 +1,4 @@
--- DEMAND 3: no sequence of readings and printings at one indent can alter a file once printed. Document 01, "The file in demand 3". Assumes nothing: these are definitions.
+-- DEMAND 3: no sequence of readings and printings at one indent can alter a file once printed. Document 01, "The file in demand 3".
 use mathlib.Core.Path.{_≡_}
 use mathlib.Core.Bool.{Bool, true, false, cond, _||_}
 use mathlib.Core.List.{List, [], _∷_}
@@ -17,8 +17,8 @@ use Rattle.writer.specs.declared.Printed.{Printed}
 use Rattle.writer.specs.declared.Printed.the-variants.{Accepted, Refused}
 use Rattle.writer.specs.Write as W
 use Rattle.writer.specs.Write.{outcomeAt}
-use Rattle.file.specs.Agree.{Agree}
-use Rattle.file.specs.Calls.{Call, reads, prints, Given, has-read, has-printed, leaves, Entry, entry, trace}
+use Rattle.demand.specs.Agree.{Agree}
+use Rattle.demand.specs.Calls.{Call, reads, prints, Given, has-read, has-printed, leaves, Entry, entry, trace}
 
 -- a text is accepted, with the definitions ds, if every row before 24 lets it pass
 abbrev pub Accepts : ℕ → List ℕ → List Definition → Type 0

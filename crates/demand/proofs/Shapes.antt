@@ -1,6 +1,5 @@
 -- The shape of a tree says nothing of places.
 --     shapes-forget   without places the definitions have the same shapes
--- Assumes nothing.
 use mathlib.Core.Path.{_≡_, refl}
 use mathlib.Core.List.{List, [], _∷_}
 use mathlib.Core.Option.{Option, some, none}
@@ -86,7 +85,7 @@ use Rattle.ast.proofs.Forget.{
   forgetDefinition,
   forget,
 }
-use Rattle.file.specs.Agree.{noteBytes, shapeOf, shapesOf}
+use Rattle.demand.specs.Agree.{noteBytes, shapeOf, shapesOf}
 
 -- ---- the parts of a forest
 

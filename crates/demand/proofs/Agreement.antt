@@ -1,7 +1,6 @@
 -- Two files agree exactly when their definitions are the same without places, and without what parameters drop.
 --     agree-of-same   the same trees agree
 --     same-of-agree   trees that agree are the same, if they are well formed
--- Assumes nothing.
 use mathlib.Core.Path.{_≡_, sym, ap, _∙_}
 use mathlib.Core.List.{List}
 use Rattle.ast.specs.Ast.{Definition}
@@ -11,10 +10,10 @@ use Rattle.ast.specs.Records.{forest}
 use Rattle.ast.proofs.Forget.{forget}
 use Rattle.parser.proofs.Wf.{WfDefinition}
 use Rattle.writer.proofs.Toks.{Good}
-use Rattle.file.specs.Agree.{shapesOf, Agree}
-use Rattle.file.proofs.Shapes.{shapes-forget}
-use Rattle.file.proofs.Rebuild.{rebuild}
-use Rattle.file.proofs.Rebuilt.{rebuild-back}
+use Rattle.demand.specs.Agree.{shapesOf, Agree}
+use Rattle.demand.proofs.Shapes.{shapes-forget}
+use Rattle.demand.proofs.Rebuild.{rebuild}
+use Rattle.demand.proofs.Rebuilt.{rebuild-back}
 
 pub agree-of-same : (ds es : List Definition) → forget (maps dropParams ds) ≡ forget (maps dropParams es) → Agree ds es
 agree-of-same ds es e =

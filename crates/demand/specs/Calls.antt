@@ -1,4 +1,4 @@
--- A list of readings and printings of one file, and what each is given and leaves: document 01, "The file in demand 3". Assumes nothing.
+-- A list of readings and printings of one file, and what each is given and leaves: document 01, "The file in demand 3".
 use mathlib.Core.List.{List, [], _∷_}
 use Prim.Native.Nat.{ℕ}
 use lib.ListN.{take}

@@ -1,6 +1,5 @@
 -- The tokens of a text that passes 20 to 22: each is one by itself, and well formed.
 --     good-tokens   for every such text
--- Assumes nothing.
 use mathlib.Core.Path.{_≡_, refl}
 use mathlib.Core.Bool.{Bool, true, false, cond}
 use mathlib.Core.List.{List, [], _∷_}

@@ -1,0 +1,9 @@
+pub mod Good
+pub mod Last
+pub mod Printed
+pub mod Shapes
+pub mod Rebuild
+pub mod Rebuilt
+pub mod Agreement
+pub mod Steps
+pub mod Demand

@@ -1,0 +1,685 @@
+// Makes a list of readings and printings of each text of the list on standard input, by `file::run` and one by one, and compares the file, its space and all that was lent.
+//
+// The list is that of replay_nodes, whose src/main.rt says what it holds. Space, tables and output are full of sevens at first.
+// Then it makes the list of calls again: a file once printed, whose fields are numbered, must stay.
+use libc::STDIN_FILENO;
+use libc::STDOUT_FILENO;
+use writer::Printed;
+ghost use Prim.Native.Nat.{_≤_, _<_};
+ghost use Rattle.io.specs.Counts.{Counts};
+
+// Longer than each text and each print of the list.
+const SPACE: usize = 66560;
+
+// How many requests are made of a text.
+const CALLS: u32 = 12;
+
+// More than is there.
+const ALL: u32 = 4294967295;
+
+const FIELD: u8 = 12;
+
+const ID: u8 = 17;
+
+// A text's number in the list, and whether its fields are numbered.
+struct Case {
+    number: u32,
+    numbered: bool,
+}
+
+// How much of both tables and of the output a printing of a text takes.
+struct Needs {
+    nodes: u32,
+    comments: u32,
+    bytes: u32,
+}
+
+// A call, 0 for a reading, and how much it is lent.
+struct Request {
+    kind: u32,
+    nodes: usize,
+    comments: usize,
+    out: usize,
+}
+
+// The file's length after some calls, what the printings among them came to, and whether `file::run` leaves the same.
+struct Steps {
+    length: usize,
+    accepted: u32,
+    refused: u32,
+    kept: u32,
+    same: bool,
+}
+
+// What was called and compared.
+struct Tally {
+    calls: u32,
+    accepted: u32,
+    refused: u32,
+    altered: u32,
+    differing: u32,
+}
+
+fn wide(byte: u8) -> u32
+    ensures { λ r. ⌜ r ≤ 255 ⌝ }
+{
+    byte as u32
+}
+
+// The next number of the list.
+fn read_number() -> u32 {
+    let mut bytes = [0u8; 4];
+    io::read_full(STDIN_FILENO, &mut bytes);
+    wide(bytes[0]) + wide(bytes[1]) * 256 + wide(bytes[2]) * 65536 + wide(bytes[3]) * 16777216
+}
+
+// The kind of the next record of the list.
+fn read_kind() -> u8 {
+    let mut record = [0u8; 36];
+    io::read_full(STDIN_FILENO, &mut record);
+    record[0]
+}
+
+// Passes over so many records of the list.
+fn pass_records(count: u32) {
+    for _ in 0..count {
+        read_kind();
+    }
+}
+
+// Whether each field among the next node records of the list has an id, which directly follows it.
+fn are_numbered(nodes: u32) -> bool {
+    let mut numbered = true;
+    let mut last: u8 = 0;
+    for _ in 0..nodes {
+        let kind = read_kind();
+        if last == FIELD {
+            if kind != ID {
+                numbered = false;
+            }
+        }
+        last = kind;
+    }
+    numbered
+}
+
+// Reads the next part of the list, its length and its bytes, to the start of a space; answers the length, 0 if the space is too short.
+fn read_part(space: &mut [u8]) -> usize
+    ensures { λ r. ⌜ Counts r (now (space .exit)) ⌝ }
+{
+    let length = read_number() as usize;
+    if space.len() < length {
+        return 0;
+    }
+    io::read_full(STDIN_FILENO, &mut space[..length])
+}
+
+// Passes over what the list has for a text; whether it is accepted, and its fields are numbered.
+fn pass_answer() -> bool {
+    let number = read_number();
+    read_number();
+    read_number();
+    if number != 0 {
+        return false;
+    }
+    let nodes = read_number();
+    let comments = read_number();
+    let numbered = are_numbered(nodes);
+    pass_records(comments);
+    let mut space: [u8; SPACE] = [0; SPACE];
+    read_part(&mut space);
+    read_part(&mut space);
+    read_part(&mut space);
+    numbered
+}
+
+fn more(n: u32) -> u32 {
+    if n < 4294967295 { n + 1 } else { n }
+}
+
+fn less(n: u32) -> u32 {
+    if 0 < n { n - 1 } else { 0 }
+}
+
+// The sum, or as much as a number holds.
+fn plus(a: u32, b: u32) -> u32 {
+    if a <= 4294967295 - b {
+        a + b
+    } else {
+        4294967295
+    }
+}
+
+// So many, or as many as there are.
+fn least(count: usize, there: usize) -> usize
+    ensures { λ r. ⌜ (r ≤ there) × (r ≤ count) ⌝ }
+{
+    if count < there { count } else { there }
+}
+
+fn number_at(numbers: &[u32], i: usize) -> u32 {
+    if i < numbers.len() { numbers[i] } else { 0 }
+}
+
+// The numbers of so many records.
+fn width_of(records: u32) -> u32 {
+    if records < 65536 { records * 9 } else { ALL }
+}
+
+fn short(length: usize) -> u32 {
+    if length < 4294967295 {
+        length as u32
+    } else {
+        ALL
+    }
+}
+
+// What a printing of a text takes; if it is refused, some numbers of each.
+fn needs_of(text: &[u8], indent: u32) -> Needs {
+    let mut nodes: [u32; 9005] = [7; 9005];
+    let mut comments: [u32; 1804] = [7; 1804];
+    let mut out: [u8; SPACE] = [7; SPACE];
+    match printer::print(text, indent, &mut nodes, &mut comments, &mut out) {
+        Printed::Accepted {
+            nodes: n,
+            comments: c,
+            bytes,
+        } => Needs {
+            nodes: width_of(n),
+            comments: width_of(c),
+            bytes: short(bytes),
+        },
+        Printed::Refused {
+            number: _,
+            place: _,
+            length: _,
+        } => Needs {
+            nodes: 27,
+            comments: 18,
+            bytes: 40,
+        },
+    }
+}
+
+// The requests: all that is there, as much as it takes, one less, nothing.
+fn requests_for(needs: Needs) -> [u32; 48] {
+    let n = needs.nodes;
+    let c = needs.comments;
+    let b = needs.bytes;
+    [
+        0,
+        n,
+        c,
+        0, //
+        1,
+        less(n),
+        c,
+        b, //
+        1,
+        n,
+        less(c),
+        b, //
+        1,
+        n,
+        c,
+        less(b), //
+        1,
+        0,
+        0,
+        0, //
+        0,
+        ALL,
+        ALL,
+        0, //
+        1,
+        n,
+        c,
+        b, //
+        0,
+        less(n),
+        c,
+        b, //
+        0,
+        n,
+        c,
+        ALL, //
+        1,
+        ALL,
+        ALL,
+        less(b), //
+        1,
+        ALL,
+        ALL,
+        ALL, //
+        0,
+        0,
+        0,
+        0, //
+    ]
+}
+
+// The request whose four numbers start at an index.
+fn request_at(requests: &[u32], i: usize) -> Request
+    requires { ⌜ i < 1000 ⌝ }
+{
+    Request {
+        kind: number_at(requests, i),
+        nodes: number_at(requests, i + 1) as usize,
+        comments: number_at(requests, i + 2) as usize,
+        out: number_at(requests, i + 3) as usize,
+    }
+}
+
+// A byte of the print that stands in an output; 0 behind it.
+fn print_byte(out: &[u8], k: usize, bytes: usize) -> u8 {
+    if bytes <= k {
+        return 0;
+    }
+    if k < out.len() { out[k] } else { 0 }
+}
+
+// Lays the print that stands in an output into a space, and 0 behind it.
+fn lay(space: &mut [u8], out: &[u8], bytes: usize) {
+    for k in 0..space.len() {
+        space[k] = print_byte(out, k, bytes);
+    }
+}
+
+// After a printing: the file is what it wrote if it is accepted, and its space holds that.
+fn keep(space: &mut [u8], out: &[u8], printed: Printed, steps: Steps) -> Steps {
+    let Printed::Accepted {
+        nodes: _,
+        comments: _,
+        bytes,
+    } = printed
+    else {
+        return Steps {
+            length: steps.length,
+            accepted: steps.accepted,
+            refused: more(steps.refused),
+            kept: steps.kept,
+            same: steps.same,
+        };
+    };
+    if space.len() < bytes {
+        return Steps {
+            length: steps.length,
+            accepted: more(steps.accepted),
+            refused: steps.refused,
+            kept: steps.kept,
+            same: steps.same,
+        };
+    }
+    lay(space, out, bytes);
+    Steps {
+        length: bytes,
+        accepted: more(steps.accepted),
+        refused: steps.refused,
+        kept: more(steps.kept),
+        same: steps.same,
+    }
+}
+
+// A reading.
+fn make_reading(text: &[u8], request: Request, nodes: &mut [u32], comments: &mut [u32]) {
+    let a = least(request.nodes, nodes.len());
+    let b = least(request.comments, comments.len());
+    reader::read(text, &mut nodes[..a], &mut comments[..b]);
+}
+
+// A printing.
+fn make_printing(
+    text: &[u8],
+    indent: u32,
+    request: Request,
+    nodes: &mut [u32],
+    comments: &mut [u32],
+    out: &mut [u8],
+) -> Printed {
+    let a = least(request.nodes, nodes.len());
+    let b = least(request.comments, comments.len());
+    let c = least(request.out, out.len());
+    printer::print(
+        text,
+        indent,
+        &mut nodes[..a],
+        &mut comments[..b],
+        &mut out[..c],
+    )
+}
+
+// One call of the reader or the printer.
+fn make_call(
+    space: &mut [u8],
+    steps: Steps,
+    indent: u32,
+    request: Request,
+    nodes: &mut [u32],
+    comments: &mut [u32],
+    out: &mut [u8],
+) -> Steps {
+    let length = least(steps.length, space.len());
+    if request.kind == 0 {
+        make_reading(&space[..length], request, nodes, comments);
+        return steps;
+    }
+    let printed = make_printing(&space[..length], indent, request, nodes, comments, out);
+    keep(space, out, printed, steps)
+}
+
+// The calls of a list of requests, one by one.
+fn make_all(
+    space: &mut [u8],
+    length: usize,
+    indent: u32,
+    requests: &[u32],
+    nodes: &mut [u32],
+    comments: &mut [u32],
+    out: &mut [u8],
+) -> Steps {
+    let mut steps = Steps {
+        length,
+        accepted: 0,
+        refused: 0,
+        kept: 0,
+        same: true,
+    };
+    for k in 0..CALLS {
+        let request = request_at(requests, k as usize * 4);
+        steps = make_call(space, steps, indent, request, nodes, comments, out);
+    }
+    steps
+}
+
+// Copies a text to the front of a space.
+fn fill(space: &mut [u8], text: &[u8]) {
+    let end = least(text.len(), space.len());
+    for k in 0..end {
+        space[k] = text[k];
+    }
+}
+
+fn same_bytes(a: &[u8], b: &[u8]) -> bool {
+    if a.len() != b.len() {
+        return false;
+    }
+    for k in 0..a.len() {
+        if a[k] != b[k] {
+            return false;
+        }
+    }
+    true
+}
+
+fn same_numbers(a: &[u32], b: &[u32]) -> bool {
+    if a.len() != b.len() {
+        return false;
+    }
+    for k in 0..a.len() {
+        if a[k] != b[k] {
+            return false;
+        }
+    }
+    true
+}
+
+// The length of a text's file that is handed over: for some texts more than its space holds.
+fn length_of(number: u32, length: usize) -> usize {
+    if number % 4 == 0 { SPACE * 2 } else { length }
+}
+
+// The length of the space of a text's file: for some texts that of the text, or little more.
+fn room_of(number: u32, length: usize) -> usize
+    ensures { λ r. ⌜ r ≤ 66560 ⌝ }
+{
+    let text = least(length, SPACE);
+    if number % 4 == 0 {
+        return text;
+    }
+    if number % 4 == 1 {
+        return least(text + 20, SPACE);
+    }
+    least(text * 4 + 200, SPACE)
+}
+
+impl Steps {
+    // With what was found the same, or not.
+    fn compared(mut self, same: bool) -> Steps {
+        if !same {
+            self.same = false;
+        }
+        self
+    }
+}
+
+impl Tally {
+    fn new() -> Tally {
+        Tally {
+            calls: 0,
+            accepted: 0,
+            refused: 0,
+            altered: 0,
+            differing: 0,
+        }
+    }
+
+    // With the calls of a text.
+    fn called(mut self, steps: Steps) -> Tally {
+        self.calls = plus(self.calls, CALLS);
+        self.accepted = plus(self.accepted, steps.accepted);
+        self.refused = plus(self.refused, steps.refused);
+        if !steps.same {
+            self.differing = more(self.differing);
+        }
+        self
+    }
+
+    // With a file that stays, or does not.
+    fn stayed(mut self, same: bool) -> Tally {
+        if !same {
+            self.altered = more(self.altered);
+        }
+        self
+    }
+}
+
+// The calls of a text by `file::run`; the file's length afterwards.
+fn run_calls(
+    space: &mut [u8],
+    text: &[u8],
+    number: u32,
+    requests: &[u32],
+    nodes: &mut [u32],
+    comments: &mut [u32],
+    out: &mut [u8],
+) -> usize {
+    fill(space, text);
+    file::run(
+        space,
+        length_of(number, text.len()),
+        number % 10,
+        requests,
+        nodes,
+        comments,
+        out,
+    )
+}
+
+// The calls of a text one by one.
+fn make_calls(
+    space: &mut [u8],
+    text: &[u8],
+    number: u32,
+    requests: &[u32],
+    nodes: &mut [u32],
+    comments: &mut [u32],
+    out: &mut [u8],
+) -> Steps {
+    fill(space, text);
+    make_all(
+        space,
+        text.len(),
+        number % 10,
+        requests,
+        nodes,
+        comments,
+        out,
+    )
+}
+
+// Whether the calls by `file::run`, made again, leave the file, which is that in the other space.
+fn stays(space: &mut [u8], other: &[u8], length: usize, number: u32, requests: &[u32]) -> bool {
+    let mut nodes: [u32; 9005] = [7; 9005];
+    let mut comments: [u32; 1804] = [7; 1804];
+    let mut out: [u8; SPACE] = [7; SPACE];
+    let again = file::run(
+        space,
+        length,
+        number % 10,
+        requests,
+        &mut nodes,
+        &mut comments,
+        &mut out,
+    );
+    if again != length {
+        return false;
+    }
+    same_bytes(space, other)
+}
+
+// Whether a printing was kept, of a text whose fields are numbered.
+fn must_stay(case: Case, steps: Steps) -> bool {
+    if case.numbered { 0 < steps.kept } else { false }
+}
+
+// Makes the calls of a text in two spaces and into two outputs, by `file::run` and one by one, and compares.
+fn compare_in(
+    space: &mut [u8],
+    spare: &mut [u8],
+    out: &mut [u8],
+    spare_out: &mut [u8],
+    text: &[u8],
+    number: u32,
+    requests: &[u32],
+) -> Steps {
+    let mut nodes: [u32; 9005] = [7; 9005];
+    let mut comments: [u32; 1804] = [7; 1804];
+    let length = run_calls(
+        space,
+        text,
+        number,
+        requests,
+        &mut nodes,
+        &mut comments,
+        out,
+    );
+    let mut spare_nodes: [u32; 9005] = [7; 9005];
+    let mut spare_comments: [u32; 1804] = [7; 1804];
+    let steps = make_calls(
+        spare,
+        text,
+        number,
+        requests,
+        &mut spare_nodes,
+        &mut spare_comments,
+        spare_out,
+    );
+    steps
+        .compared(length == steps.length)
+        .compared(same_bytes(space, spare))
+        .compared(same_bytes(out, spare_out))
+        .compared(same_numbers(&nodes, &spare_nodes))
+        .compared(same_numbers(&comments, &spare_comments))
+}
+
+// Makes the calls of a text, compares, and makes them again if the file must stay.
+fn compare_parts(
+    space: &mut [u8],
+    spare: &mut [u8],
+    out: &mut [u8],
+    spare_out: &mut [u8],
+    text: &[u8],
+    case: Case,
+    tally: Tally,
+) -> Tally {
+    let number = case.number;
+    let requests = requests_for(needs_of(text, number % 10));
+    let steps = compare_in(space, spare, out, spare_out, text, number, &requests);
+    let now = tally.called(steps);
+    if must_stay(case, steps) {
+        return now.stayed(stays(space, spare, steps.length, number, &requests));
+    }
+    now
+}
+
+// Makes the calls of a text in spaces of their own.
+fn compare_text(text: &[u8], case: Case, tally: Tally) -> Tally {
+    let mut space: [u8; SPACE] = [7; SPACE];
+    let mut spare: [u8; SPACE] = [7; SPACE];
+    let mut out: [u8; SPACE] = [7; SPACE];
+    let mut spare_out: [u8; SPACE] = [7; SPACE];
+    let room = room_of(case.number, text.len());
+    let lent = room_of(2, text.len());
+    compare_parts(
+        &mut space[..room],
+        &mut spare[..room],
+        &mut out[..lent],
+        &mut spare_out[..lent],
+        text,
+        case,
+        tally,
+    )
+}
+
+// Makes the calls of the next text of the list.
+fn compare_next(space: &mut [u8], number: u32, tally: Tally) -> Tally {
+    let length = read_part(space);
+    let numbered = pass_answer();
+    compare_text(&space[..length], Case { number, numbered }, tally)
+}
+
+// Whether more differs, or was altered, than before.
+fn has_more(now: Tally, before: Tally) -> bool {
+    if now.differing != before.differing {
+        return true;
+    }
+    now.altered != before.altered
+}
+
+// Writes that a text differs; the first is 0.
+fn write_differing(number: u32) {
+    io::write_all(STDOUT_FILENO, b"text ");
+    io::print_decimal(STDOUT_FILENO, number as u64);
+    io::write_all(STDOUT_FILENO, b" differs\n");
+}
+
+// Compares all texts.
+fn compare(texts: u32) -> Tally {
+    let mut space: [u8; SPACE] = [0; SPACE];
+    let mut tally = Tally::new();
+    for i in 0..texts {
+        let now = compare_next(&mut space, i, tally);
+        if has_more(now, tally) {
+            write_differing(i);
+        }
+        tally = now;
+    }
+    tally
+}
+
+// Writes a number and what it counts.
+fn write_count(number: u32, what: &[u8]) {
+    io::print_decimal(STDOUT_FILENO, number as u64);
+    io::write_all(STDOUT_FILENO, what);
+}
+
+fn main() {
+    let texts = read_number();
+    let tally = compare(texts);
+    write_count(texts, b" texts, ");
+    write_count(tally.calls, b" calls; printings: ");
+    write_count(tally.accepted, b" accepted, ");
+    write_count(tally.refused, b" refused; ");
+    write_count(tally.altered, b" files altered after a print, ");
+    write_count(tally.differing, b" differences\n");
+}
