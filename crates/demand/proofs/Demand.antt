@@ -6,6 +6,7 @@ use mathlib.Core.Path.{_≡_, refl, sym, ap, _∙_}
 use mathlib.Core.List.{List, []}
 use Prim.Native.Nat.{ℕ}
 use Rattle.token.specs.Breaks.{Bytes}
+use Rattle.lexer.specs.Outcome as O
 use Rattle.lexer.specs.Check.{limit}
 use Rattle.lexer.specs.Location.{opening}
 use Rattle.lexer.specs.Tokens.{tokens}
@@ -17,7 +18,7 @@ use Rattle.ast.proofs.Forget.{nowhere, bares, forget}
 use Rattle.ast.proofs.Drops.{drop-forget, drop-twice}
 use Rattle.parser.specs.Steps.{pos}
 use Rattle.parser.specs.Definitions.{parseDocument}
-use Rattle.parser.specs.Read.{read, outcome}
+use Rattle.parser.specs.Read.{outcome}
 use Rattle.writer.specs.Print.{printed}
 use Rattle.writer.proofs.Places.{print-forget, print-drop}
 use Rattle.demand.specs.Demand.{Premise, Fixed, Alike, Demand3}
@@ -45,7 +46,7 @@ print-fixed indent t ds h =
       same-bytes = printed-same indent (a .found) ds (a .same-tree);
     }
 
-module _ (indent : ℕ) (t u : List ℕ) (ds es : List Definition) (bt : Bytes t) (bu : Bytes u) (rt : outcome t ≡ read ds) (ru : outcome u ≡ read es)
+module _ (indent : ℕ) (t u : List ℕ) (ds es : List Definition) (bt : Bytes t) (bu : Bytes u) (rt : outcome t ≡ O.accepted ds) (ru : outcome u ≡ O.accepted es)
     (nt : All Numbered ds) (nu : All Numbered es) where
   from-print : printed indent ds ≡ printed indent es → forget (maps dropParams ds) ≡ forget (maps dropParams es)
   unfolding results

@@ -13,7 +13,7 @@ use Rattle.token.specs.declared.Scan.{Scan}
 use Rattle.token.specs.declared.Scan.the-variants.{Miss, Hit}
 use Rattle.token.proofs.Stable.{alone, bytes-take}
 use Rattle.lexer.specs.declared.location.Lexer.{Lexer}
-use Rattle.lexer.specs.declared.Checked.the-variants as C
+use Rattle.lexer.specs.Outcome.{accepted}
 use Rattle.lexer.specs.Cuts.{Cuts, end, stuck, cut, cuts}
 use Rattle.lexer.specs.Location.{pass, between, opening}
 use Rattle.lexer.specs.Tokens.{lexeme, skipped, lexemes, tokens}
@@ -67,6 +67,6 @@ good-from (cut k b cs) s a w = go (skipped k) refl (good-from cs (pass b k s) (a
     go true e g = g
     go false e g = acons (record { bytes = a .0; scanned = a .1; solid = e; formed = w .0 }) g
 
-pub good-tokens : (t : List ℕ) → Bytes t → checked t ≡ C.Fine → All (GoodL Good) (tokens t opening)
+pub good-tokens : (t : List ℕ) {ns : List ℕ} → Bytes t → checked t ≡ accepted ns → All (GoodL Good) (tokens t opening)
 unfolding tokens opening
 good-tokens t b e = let f = fine-means t e in good-from (cuts t) _ (alone-from (length t) t (omega arith) b) (well-cuts t b (f .1) (f .2))

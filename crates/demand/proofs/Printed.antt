@@ -11,20 +11,22 @@ use mathlib.Core.List.{List, []}
 use Prim.Native.Nat.{ℕ, _≤_}
 use lib.ListN.{length}
 use Rattle.token.specs.Breaks.{Bytes}
-use Rattle.lexer.specs.declared.Checked.{Checked}
-use Rattle.lexer.specs.declared.Checked.the-variants as C
+use Rattle.lexer.specs.Outcome.{Outcome, accepted, refused}
 use Rattle.lexer.specs.declared.location.LOC.{LOC}
 use Rattle.lexer.specs.Location.{between, spanOf, opening}
 use Rattle.lexer.specs.Cuts.{cuts}
 use Rattle.lexer.specs.Tokens.{tokens}
 use Rattle.lexer.specs.Check.{checked}
+use Rattle.utf8.specs.Found.{found}
+use Rattle.lexer.proofs.CheckLaws.{fine}
+use Rattle.lexer.proofs.Ascii.{fine-means}
 use Rattle.ast.specs.Ast.{Definition}
 use Rattle.ast.specs.Lists.{maps, All, anil}
 use Rattle.ast.specs.Drop.{dropParams}
 use Rattle.ast.proofs.Forget.{nowhere, bares, forget}
 use Rattle.parser.specs.Steps.{St, pos, Res, ok, no}
 use Rattle.parser.specs.Definitions.{parseDocument}
-use Rattle.parser.specs.Read.{Outcome, read, refused, parsed, answered, outcomeBy, outcome}
+use Rattle.parser.specs.Read.{parsed, answered, outcomeBy, outcome}
 use Rattle.ast.specs.Numbered.{Numbered}
 use Rattle.parser.proofs.Wf.{WfDefinition, most}
 use Rattle.parser.proofs.Sure.{Some, Read, good, final, sure-ok, both, document-s}
@@ -40,38 +42,40 @@ use Rattle.demand.proofs.Last.{print-far}
 
 -- a text passes 20 to 22, and its tokens read as ds
 pub record Taken (t : List ℕ) (ds : List Definition) : Type 0 where
-  pub fine : checked t ≡ C.Fine
+  pub fine : checked t ≡ accepted []
   pub after : St
   pub reads : parsed t ≡ ok ds after
 
-accepts : Outcome → Bool
-accepts (read ds) = true
+accepts : Outcome (List Definition) → Bool
+accepts (accepted ds) = true
 accepts (refused e p n) = false
 
-definitions : Outcome → List Definition
-definitions (read ds) = ds
+definitions : Outcome (List Definition) → List Definition
+definitions (accepted ds) = ds
 definitions (refused e p n) = []
 
-same : (xs ds : List Definition) → read xs ≡ read ds → xs ≡ ds
+same : (xs ds : List Definition) → accepted xs ≡ accepted ds → xs ≡ ds
 unfolding definitions
 same xs ds e = ap definitions e
 
-taken-by : (c : Checked) (m : Res (List Definition)) (t : List ℕ) (ds : List Definition) → checked t ≡ c → parsed t ≡ m → outcomeBy c t ≡ read ds → Taken t ds
-unfolding outcomeBy answered accepts
-taken-by C.Fine (ok xs s) t ds f p e = record { fine = f; after = s; reads = p ∙ ap (λ (x : List Definition). ok x s) (same xs ds (rw p at e)) }
-taken-by C.Fine (no x l) t ds f p e = absurd (false≢true (ap accepts (rw p at e)))
-taken-by C.TooLong m t ds f p e = absurd (false≢true (ap accepts e))
-taken-by (C.IllFormed x) m t ds f p e = absurd (false≢true (ap accepts e))
-taken-by (C.Unrecognized x) m t ds f p e = absurd (false≢true (ap accepts e))
+fine-nil : (t : List ℕ) {ns : List ℕ} → checked t ≡ accepted ns → checked t ≡ accepted []
+unfolding found
+fine-nil t e = let f = fine-means t e in fine t (f .0) (ap found (f .1)) (ap found (f .2))
 
-pub taken-means : (t : List ℕ) (ds : List Definition) → outcome t ≡ read ds → Taken t ds
+taken-by : (c : Outcome (List ℕ)) (m : Res (List Definition)) (t : List ℕ) (ds : List Definition) → checked t ≡ c → parsed t ≡ m → outcomeBy c t ≡ accepted ds → Taken t ds
+unfolding outcomeBy answered accepts
+taken-by (accepted ns) (ok xs s) t ds f p e = record { fine = fine-nil t f; after = s; reads = p ∙ ap (λ (x : List Definition). ok x s) (same xs ds (rw p at e)) }
+taken-by (accepted ns) (no x l) t ds f p e = absurd (false≢true (ap accepts (rw p at e)))
+taken-by (refused x q n) m t ds f p e = absurd (false≢true (ap accepts e))
+
+pub taken-means : (t : List ℕ) (ds : List Definition) → outcome t ≡ accepted ds → Taken t ds
 unfolding outcome
 taken-means t ds e = taken-by (checked t) (parsed t) t ds refl refl e
 
 abbrev Anywhere : LOC → Type 0
 Anywhere l = Unit {0}
 
-module _ (t : List ℕ) (b : Bytes t) (ds : List Definition) (e : outcome t ≡ read ds) where
+module _ (t : List ℕ) (b : Bytes t) (ds : List Definition) (e : outcome t ≡ accepted ds) where
   read-some : Some (Read Good) most ds
   unfolding parsed
   read-some =
@@ -81,7 +85,7 @@ module _ (t : List ℕ) (b : Bytes t) (ds : List Definition) (e : outcome t ≡ 
   pub well-read : All Numbered ds → All (WfDefinition Good) ds
   well-read n = both (read-some .each) n
 
-  pub print-fine : All Numbered ds → (indent : ℕ) → length (printed indent ds) ≤ 65536 → checked (printed indent ds) ≡ C.Fine
+  pub print-fine : All Numbered ds → (indent : ℕ) → length (printed indent ds) ≤ 65536 → checked (printed indent ds) ≡ accepted []
   unfolding printed
   print-fine n indent h = fine-print (pieces-apart indent (well-read n)) h
 
@@ -102,7 +106,7 @@ module _ (t : List ℕ) (b : Bytes t) (ds : List Definition) (e : outcome t ≡ 
 -- a text that is read, to the same as xs but for places
 pub record Again (t : List ℕ) (xs : List Definition) : Type 0 where
   pub found : List Definition
-  pub taken : outcome t ≡ read found
+  pub taken : outcome t ≡ accepted found
   pub same-tree : forget found ≡ forget xs
 
 unfoldable pub results : Res (List Definition) → List Definition
@@ -113,11 +117,11 @@ succeeds : Res (List Definition) → Bool
 succeeds (ok ds s) = true
 succeeds (no e l) = false
 
-again-by : (m : Res (List Definition)) (t : List ℕ) (xs : List Definition) → checked t ≡ C.Fine → parsed t ≡ m → bareR forget m ≡ ok (forget xs) (pos nowhere [] []) → Again t xs
+again-by : (m : Res (List Definition)) (t : List ℕ) (xs : List Definition) → checked t ≡ accepted [] → parsed t ≡ m → bareR forget m ≡ ok (forget xs) (pos nowhere [] []) → Again t xs
 unfolding bareR outcome outcomeBy answered results succeeds
 again-by (ok ds s) t xs f p e = record { found = ds; taken = rw (f, p) refl; same-tree = ap results e }
 again-by (no x l) t xs f p e = absurd (false≢true (ap succeeds e))
 
-module _ (t : List ℕ) (b : Bytes t) (ds : List Definition) (e : outcome t ≡ read ds) where
+module _ (t : List ℕ) (b : Bytes t) (ds : List Definition) (e : outcome t ≡ accepted ds) where
   pub print-again : All Numbered ds → (indent : ℕ) → length (printed indent ds) ≤ 65536 → Again (printed indent ds) (maps dropParams ds)
   print-again n indent h = again-by _ (printed indent ds) (maps dropParams ds) (print-fine t b ds e n indent h) refl (print-parsed t b ds e n indent)

@@ -7,18 +7,19 @@ use mathlib.Core.Path.{_≡_, refl, sym, ap, _∙_}
 use mathlib.Core.Bool.{Bool, true, false, cond, _||_, false≢true}
 use mathlib.Core.List.{List, [], _∷_}
 use Prim.Native.Nat.{ℕ}
+use borrow.Author.Tests.{le-ltb}
 use lib.Dec.{ltb}
 use lib.ListN.{length}
 use lib.Seq.{take-append-seam}
-use Rattle.lexer.specs.declared.Checked.{Checked}
-use Rattle.lexer.specs.declared.Checked.the-variants as C
-use Rattle.lexer.specs.Check.{checked}
+use Rattle.lexer.specs.Outcome as O
+use Rattle.lexer.specs.Outcome.{Outcome, refused}
+use Rattle.lexer.specs.Check.{limit}
 use Rattle.ast.specs.Ast.{Definition}
 use Rattle.ast.specs.Records.{nodeRows, notes, room}
 use Rattle.parser.specs.Read as R
-use Rattle.parser.specs.Read.{Outcome, read, refused, outcome, outcomeBy, reading, rowsBy}
+use Rattle.parser.specs.Read.{outcome, reading, rowsBy}
+use Rattle.parser.proofs.Paid.{read-bounds}
 use Rattle.writer.specs.Print.{printed}
-use Rattle.writer.specs.declared.Printed.the-variants.{Accepted, Refused}
 use Rattle.writer.specs.Write as W
 use Rattle.writer.specs.Write.{widest, outcomeAt, printing, printOf}
 use Rattle.demand.specs.Agree.{Agree}
@@ -27,39 +28,31 @@ use Rattle.demand.specs.Demand.{Accepts, answers, accepts, printsIt, Ste
 
 -- ---- acceptance at an indent
 
-is-read : Outcome → Bool
-is-read (read ds) = true
+is-read : Outcome (List Definition) → Bool
+is-read (O.accepted ds) = true
 is-read (refused e p n) = false
 
 pub record Both (indent : ℕ) (t : List ℕ) (ds : List Definition) : Type 0 where
-  pub reads : outcome t ≡ read ds
+  pub reads : outcome t ≡ O.accepted ds
   pub narrow : ltb widest indent ≡ false
 
-narrow-by : (b : Bool) (o p : Outcome) (ds : List Definition) → is-read p ≡ false → cond b p o ≡ read ds → (b ≡ false) × (o ≡ read ds)
-unfolding is-read
-narrow-by true o p ds h e = absurd (false≢true (sym h ∙ ap is-read e))
-narrow-by false o p ds h e = (refl, e)
-
-both-by : (c : Checked) (indent : ℕ) (t : List ℕ) (ds : List Definition) → checked t ≡ c → outcomeAt indent c t ≡ read ds → Both indent t ds
-unfolding outcomeAt outcome outcomeBy is-read
-both-by C.TooLong indent t ds f e = absurd (false≢true (ap is-read e))
-both-by C.Fine indent t ds f e = let k = narrow-by (ltb widest indent) _ (refused 26 0 0) ds refl e in record { reads = rw f (k .1); narrow = k .0 }
-both-by (C.IllFormed p) indent t ds f e = absurd (false≢true (ap is-read (narrow-by (ltb widest indent) _ (refused 26 0 0) ds refl e .1)))
-both-by (C.Unrecognized p) indent t ds f e = absurd (false≢true (ap is-read (narrow-by (ltb widest indent) _ (refused 26 0 0) ds refl e .1)))
-
 pub accepts-reads : (indent : ℕ) (t : List ℕ) (ds : List Definition) → Accepts indent t ds → Both indent t ds
-accepts-reads indent t ds e = both-by (checked t) indent t ds refl e
+unfolding outcomeAt is-read
+accepts-reads indent t ds e = go (ltb limit (length t)) (ltb widest indent) refl e
+  where
+    go : (a b : Bool) → ltb widest indent ≡ b → cond a (refused 20 0 0) (cond b (refused 26 0 0) (outcome t)) ≡ O.accepted ds → Both indent t ds
+    go true b h e = absurd (false≢true (ap is-read e))
+    go false true h e = absurd (false≢true (ap is-read e))
+    go false false h e = record { reads = e; narrow = h }
 
-accepts-by : (c : Checked) (indent : ℕ) (t : List ℕ) (ds : List Definition) → outcomeBy c t ≡ read ds → ltb widest indent ≡ false → outcomeAt indent c t ≡ read ds
-unfolding outcomeAt outcomeBy is-read
-accepts-by C.TooLong indent t ds e n = absurd (false≢true (ap is-read e))
-accepts-by C.Fine indent t ds e n = rw n e
-accepts-by (C.IllFormed p) indent t ds e n = absurd (false≢true (ap is-read e))
-accepts-by (C.Unrecognized p) indent t ds e n = absurd (false≢true (ap is-read e))
+-- a text that is read is not too long
+short : (t : List ℕ) (ds : List Definition) → outcome t ≡ O.accepted ds → ltb limit (length t) ≡ false
+unfolding limit
+short t ds e = le-ltb 65536 (length t) (read-bounds t ds e .bytes)
 
-pub reads-accepts : (indent : ℕ) (t : List ℕ) (ds : List Definition) → outcome t ≡ read ds → ltb widest indent ≡ false → Accepts indent t ds
-unfolding outcome
-reads-accepts indent t ds e n = accepts-by (checked t) indent t ds e n
+pub reads-accepts : (indent : ℕ) (t : List ℕ) (ds : List Definition) → outcome t ≡ O.accepted ds → ltb widest indent ≡ false → Accepts indent t ds
+unfolding outcomeAt
+reads-accepts indent t ds e n = rw (short t ds e, n) e
 
 -- ---- one call
 
@@ -69,21 +62,21 @@ gives-answers indent (reads ns cs) f ds e = rw (accepts-reads indent f ds e .rea
 gives-answers indent (prints ns cs out) f ds e = rw e refl
 
 -- the answer of a printing, by what it is lent
-kept-by : (x y z : Bool) (n c : ℕ) (p out f : List ℕ) →
-    let a = cond x (Refused 24 0 0) (cond y (Refused 25 0 0) (cond z (Refused 27 0 0) (Accepted n c (length p)))) in
+kept-by : (x y z : Bool) (n c : ℕ) (p out f : List ℕ) → ltb (length out) (length p) ≡ z →
+    let a = W.fittedOut (cond x (refused 24 0 0) (cond y (refused 25 0 0) (O.accepted (n ∷ c ∷ [])))) p out in
     kept a (W.written a p out) f ≡ cond (accepts a) p f
-unfolding kept accepts W.written
-kept-by true y z n c p out f = refl
-kept-by false true z n c p out f = refl
-kept-by false false true n c p out f = refl
-kept-by false false false n c p out f = take-append-seam p _
+unfolding kept accepts W.written W.fittedOut
+kept-by true y z n c p out f h = refl
+kept-by false true z n c p out f h = refl
+kept-by false false true n c p out f h = rw h
+kept-by false false false n c p out f h = rw h (take-append-seam p _)
 
 pub leaves-print : (indent : ℕ) (c : Call) (f : List ℕ) (ds : List Definition) →
     leaves (answers indent c ds) f ≡ cond (printsIt (answers indent c ds)) (printed indent ds) f
-unfolding answers leaves printsIt W.fitted
+unfolding answers leaves printsIt R.fitted
 leaves-print indent (reads ns cs) f ds = refl
 leaves-print indent (prints ns cs out) f ds =
-    kept-by (ltb (room ns) (length (nodeRows ds))) (ltb (room cs) (length (notes ds))) (ltb (length out) (length (printed indent ds))) _ _ (printed indent ds) out f
+    kept-by (ltb (room ns) (length (nodeRows ds))) (ltb (room cs) (length (notes ds))) _ _ _ (printed indent ds) out f refl
 
 -- ---- the list of calls
 

@@ -2,10 +2,9 @@
 use mathlib.Core.List.{List, [], _∷_}
 use Prim.Native.Nat.{ℕ}
 use lib.ListN.{take}
+use Rattle.lexer.specs.Outcome.{Outcome, accepted, refused}
 use Rattle.parser.specs.Read.{Reading, reading}
-use Rattle.writer.specs.declared.Printed.{Printed}
-use Rattle.writer.specs.declared.Printed.the-variants.{Accepted, Refused}
-use Rattle.writer.specs.Write.{Printing, printing}
+use Rattle.writer.specs.Write.{Printing, bytesWritten, printing}
 
 -- a call, with the tables that it is lent, and in a printing the output
 pub data Call : Type 0 where
@@ -23,9 +22,9 @@ gives indent (reads ns cs) f = has-read (reading f ns cs)
 gives indent (prints ns cs out) f = has-printed (printing f indent ns cs out)
 
 -- an accepted printing makes the bytes it wrote the file; a reading and a refused printing leave it
-unfoldable pub kept : Printed → List ℕ → List ℕ → List ℕ
-kept (Accepted n c b) out f = take b out
-kept (Refused e p n) out f = f
+unfoldable pub kept : Outcome (List ℕ) → List ℕ → List ℕ → List ℕ
+kept (accepted ns) out f = take (bytesWritten ns) out
+kept (refused e p n) out f = f
 
 unfoldable pub leaves : Given → List ℕ → List ℕ
 leaves (has-read r) f = f

@@ -5,16 +5,16 @@ use mathlib.Core.List.{List, [], _∷_}
 use Prim.Native.Nat.{ℕ, _≤_}
 use lib.ListN.{length}
 use Rattle.token.specs.Breaks.{Bytes}
-use Rattle.lexer.specs.Check.{checked, limit}
+use Rattle.lexer.specs.Outcome as O
+use Rattle.lexer.specs.Outcome.{Outcome}
+use Rattle.lexer.specs.Check.{limit}
 use Rattle.ast.specs.Ast.{Definition}
 use Rattle.ast.specs.Lists.{All}
 use Rattle.ast.specs.Numbered.{Numbered}
 use Rattle.ast.specs.Records.{nodeRows, notes}
 use Rattle.parser.specs.Read as R
-use Rattle.parser.specs.Read.{read, outcome}
+use Rattle.parser.specs.Read.{outcome}
 use Rattle.writer.specs.Print.{printed}
-use Rattle.writer.specs.declared.Printed.{Printed}
-use Rattle.writer.specs.declared.Printed.the-variants.{Accepted, Refused}
 use Rattle.writer.specs.Write as W
 use Rattle.writer.specs.Write.{outcomeAt}
 use Rattle.demand.specs.Agree.{Agree}
@@ -22,7 +22,7 @@ use Rattle.demand.specs.Calls.{Call, reads, prints, Given, has-read, has
 
 -- a text is accepted, with the definitions ds, if every row before 24 lets it pass
 abbrev pub Accepts : ℕ → List ℕ → List Definition → Type 0
-Accepts indent t ds = outcomeAt indent (checked t) t ≡ read ds
+Accepts indent t ds = outcomeAt indent t ≡ O.accepted ds
 
 -- the premise: accepted, numbered, and its print fits the limits
 pub record Premise (indent : ℕ) (t : List ℕ) (ds : List Definition) : Type 0 where
@@ -37,14 +37,14 @@ unfoldable pub answers : ℕ → Call → List Definition → Given
 answers indent (reads ns cs) ds =
     let a = R.fitted ds ns cs in has-read (record { says = a; nodes = R.left a (nodeRows ds) ns; comments = R.left a (notes ds) cs })
 answers indent (prints ns cs out) ds =
-    let a = W.fitted indent ds ns cs out in
+    let a = W.fittedOut (R.fitted ds ns cs) (printed indent ds) out in
     has-printed
-    (record { says = a; nodes = W.left a (nodeRows ds) ns; comments = W.left a (notes ds) cs; output = W.written a (printed indent ds) out })
+    (record { says = a; nodes = R.left a (nodeRows ds) ns; comments = R.left a (notes ds) cs; output = W.written a (printed indent ds) out })
 
 -- is it an accepted printing?
-unfoldable pub accepts : Printed → Bool
-accepts (Accepted n c b) = true
-accepts (Refused e p n) = false
+unfoldable pub accepts : Outcome (List ℕ) → Bool
+accepts (O.accepted ns) = true
+accepts (O.refused e p n) = false
 
 unfoldable pub printsIt : Given → Bool
 printsIt (has-read r) = false
@@ -84,5 +84,5 @@ pub record Alike (indent : ℕ) (ds es : List Definition) : Type 0 where
 pub record Demand3 : Type 0 where
   pub fixed : (indent : ℕ) (t : List ℕ) (ds : List Definition) → Premise indent t ds → Fixed indent ds
   pub stays : (indent : ℕ) (t : List ℕ) (ds : List Definition) → Premise indent t ds → (cs : List Call) → Stays indent t ds false (trace indent cs t)
-  pub alike : (indent : ℕ) (t u : List ℕ) (ds es : List Definition) → Bytes t → Bytes u → outcome t ≡ read ds → outcome u ≡ read es →
+  pub alike : (indent : ℕ) (t u : List ℕ) (ds es : List Definition) → Bytes t → Bytes u → outcome t ≡ O.accepted ds → outcome u ≡ O.accepted es →
       All Numbered ds → All Numbered es → Alike indent ds es

@@ -11,7 +11,8 @@ use borrow.Author.Tests.{le-leb}
 use Rattle.ast.specs.Ast.{Definition}
 use Rattle.ast.specs.Records.{nodeRows, notes, room}
 use Rattle.writer.specs.Print.{printed}
-use Rattle.writer.specs.declared.Printed.the-variants.{Accepted, Refused}
+use Rattle.lexer.specs.Outcome.{accepted, refused}
+use Rattle.parser.specs.Read.{fitted}
 use Rattle.writer.specs.Write as W
 use Rattle.demand.specs.Calls.{Given, gives, kept, leaves, trace}
 use Rattle.demand.specs.Demand.{Accepts, answers, printsIt}
@@ -22,23 +23,23 @@ use Rattle.demand.proofs.Steps.{file, found, given, onward, file-print, accepts
 use Rattle.demand.proofs.Demand.{print-fixed, demand-3}
 
 -- a print that the file's space holds
-kept-in : (x y z : Bool) (n c : ℕ) (p out : List ℕ) (f : File) → length p ≤ length (f .space) →
-    let a = cond x (Refused 24 0 0) (cond y (Refused 25 0 0) (cond z (Refused 27 0 0) (Accepted n c (length p)))) in
+kept-in : (x y z : Bool) (n c : ℕ) (p out : List ℕ) (f : File) → ltb (length out) (length p) ≡ z → length p ≤ length (f .space) →
+    let a = W.fittedOut (cond x (refused 24 0 0) (cond y (refused 25 0 0) (accepted (n ∷ c ∷ [])))) p out in
     bytesOf (keptIn a (W.written a p out) f) ≡ kept a (W.written a p out) (bytesOf f)
-unfolding keptIn kept W.written
-kept-in true y z n c p out f h = refl
-kept-in false true z n c p out f h = refl
-kept-in false false true n c p out f h = refl
-kept-in false false false n c p out f h = rw (le-leb (length p) (length (f .space)) h) (simp take-append-seam)
+unfolding keptIn kept W.written W.fittedOut
+kept-in true y z n c p out f e h = refl
+kept-in false true z n c p out f e h = refl
+kept-in false false true n c p out f e h = rw e
+kept-in false false false n c p out f e h = rw (e, le-leb (length p) (length (f .space)) h) (simp take-append-seam)
 
 -- the file after a call that answers for these definitions
 settled-file : (indent : ℕ) (q : Request) (m : Memory) (ds : List Definition) → length (printed indent ds) ≤ length (m .file .space) →
     bytesOf (settled q (answers indent (callOf q m) ds) m .file) ≡ leaves (answers indent (callOf q m) ds) (bytesOf (m .file))
-unfolding settled callOf answers leaves W.fitted
+unfolding settled callOf answers leaves fitted
 settled-file indent (ask false a b c) m ds h = refl
 settled-file indent (ask true a b c) m ds h =
     kept-in (ltb (room (take a (m .nodes))) (length (nodeRows ds))) (ltb (room (take b (m .comments))) (length (notes ds)))
-    (ltb (length (take c (m .output))) (length (printed indent ds))) _ _ (printed indent ds) _ (m .file) h
+    _ _ _ (printed indent ds) (take c (m .output)) (m .file) refl h
 
 after-file : (indent : ℕ) (q : Request) (m : Memory) (ds : List Definition) → length (printed indent ds) ≤ length (m .file .space) →
     gives indent (callOf q m) (bytesOf (m .file)) ≡ answers indent (callOf q m) ds →

@@ -16,17 +16,18 @@ use lib.Dec.{eqb, leb, ltb}
 use borrow.Author.Tests.{leb-true, leb-false, le-leb, lt-leb}
 use lib.ListN.{length, take, drop, getD, replicate, length-append, length-take, length-drop, length-replicate, drop-of-length-le}
 use lib.Seq.{take-all, take-at, drop-cons, length-take-le}
-use Rattle.lexer.specs.Check.{checked}
+use Rattle.lexer.specs.Outcome.{Outcome, accepted, refused}
 use Rattle.ast.specs.Records.{nodeRows, notes, room}
 use Rattle.steps.specs.Into.{wiped}
 use Rattle.parser.specs.declared.Answer.{Answer}
-use Rattle.parser.specs.Read.{Outcome, read, refused, Reading, reading}
+use Rattle.ast.specs.Ast.{Definition}
+use Rattle.parser.specs.Read.{fitted, Reading, reading}
 use Rattle.parser.specs.Read.{told as read-told}
 use Rattle.writer.specs.Print.{printed}
 use Rattle.writer.specs.declared.Printed.{Printed}
 use Rattle.writer.specs.declared.Printed.the-variants.{Accepted, Refused}
 use Rattle.writer.specs.Write as W
-use Rattle.writer.specs.Write.{Printing, told, outcomeAt, printOf, printing}
+use Rattle.writer.specs.Write.{Printing, said, told, bytesWritten, outcomeAt, printOf, printing}
 use Rattle.demand.specs.Calls.{has-read, has-printed, gives}
 use Rattle.file.specs.Run.{Request, ask, requestsOf, File, fileOf, Memory, memory, callOf, keptIn, settled, after, runs}
 
@@ -73,18 +74,18 @@ read-is text ns cs ns′ cs′ a b x y r k l e =
 -- ---- store
 
 module _ (p : Printed) (out : List ℕ) (f : File) where
-  pub store-refused : (e l n : ℕ) → p ≡ Refused e l n → f ≡ keptIn p out f
-  unfolding keptIn
+  pub store-refused : (e l n : ℕ) → p ≡ Refused e l n → f ≡ keptIn (said p) out f
+  unfolding keptIn said
   store-refused e l n h = rw h
 
   module _ (n c b : ℕ) (h : p ≡ Accepted n c b) where
-    pub store-long : length (f .space) < b → f ≡ keptIn p out f
-    unfolding keptIn
+    pub store-long : length (f .space) < b → f ≡ keptIn (said p) out f
+    unfolding keptIn said
     store-long l = rw (h, lt-leb b (length (f .space)) l)
 
     pub store-in : (copied space′ : List ℕ) → b ≤ length (f .space) → b ≤ length out → copied ≡ take b out ++ drop (length (take b out)) (f .space)
-        → length copied ≡ length (f .space) → space′ ≡ wiped b copied → fileOf b space′ ≡ keptIn p out f
-    unfolding keptIn wiped W.written
+        → length copied ≡ length (f .space) → space′ ≡ wiped b copied → fileOf b space′ ≡ keptIn (said p) out f
+    unfolding keptIn said wiped W.written
     store-in copied space′ l k e s w =
         let t : length (take b out) ≡ b = length-take-le b out k in
         let u : take b copied ≡ take b out = ap (take b) e ∙ take-at (take b out) (drop (length (take b out)) (f .space)) b t in
@@ -92,40 +93,40 @@ module _ (p : Printed) (out : List ℕ) (f : File) where
 
 -- ---- print_file
 
-is-accepted : Printed → Bool
-is-accepted (Accepted n c b) = true
-is-accepted (Refused e p n) = false
+is-accepted : Outcome (List ℕ) → Bool
+is-accepted (accepted ns) = true
+is-accepted (refused e p n) = false
 
-bytes-of : Printed → ℕ
-bytes-of (Accepted n c b) = b
-bytes-of (Refused e p n) = 0
+bytes-of : Outcome (List ℕ) → ℕ
+bytes-of (accepted ns) = bytesWritten ns
+bytes-of (refused e p n) = 0
 
-clash : (e p l n c b : ℕ) → Refused e p l ≡ Accepted n c b → ⊥
+clash : (e p l : ℕ) (ks : List ℕ) → refused e p l ≡ accepted ks → ⊥
 unfolding is-accepted
-clash e p l n c b h = false≢true (ap is-accepted h)
+clash e p l ks h = false≢true (ap is-accepted h)
 
-fitted-in : (x y z : Bool) (n c : ℕ) (p out : List ℕ) (k l b : ℕ)
-    → let a = cond x (Refused 24 0 0) (cond y (Refused 25 0 0) (cond z (Refused 27 0 0) (Accepted n c (length p)))) in
-    a ≡ Accepted k l b → b ≤ length (W.written a p out)
-unfolding W.written bytes-of
-fitted-in true y z n c p out k l b e = absurd (clash _ _ _ _ _ _ e)
-fitted-in false true z n c p out k l b e = absurd (clash _ _ _ _ _ _ e)
-fitted-in false false true n c p out k l b e = absurd (clash _ _ _ _ _ _ e)
-fitted-in false false false n c p out k l b e =
-    let h : length p ≡ b = ap bytes-of e in
-    omega (arith, h, length-append p (replicate (length out - length p) 0))
+fitted-in : (x y z : Bool) (n c : ℕ) (p out ks : List ℕ) → ltb (length out) (length p) ≡ z
+    → let a = W.fittedOut (cond x (refused 24 0 0) (cond y (refused 25 0 0) (accepted (n ∷ c ∷ [])))) p out in
+    a ≡ accepted ks → bytesWritten ks ≤ length (W.written a p out)
+unfolding W.fittedOut W.written bytes-of
+fitted-in true y z n c p out ks h e = absurd (clash _ _ _ _ e)
+fitted-in false true z n c p out ks h e = absurd (clash _ _ _ _ e)
+fitted-in false false true n c p out ks h e = absurd (clash _ _ _ _ (rw h at e))
+fitted-in false false false n c p out ks h e =
+    let l : length p ≡ bytesWritten ks = ap bytes-of (rw h at e) in
+    rw h (omega (arith, l, length-append p (replicate (length out - length p) 0)))
 
-says-in : (o : Outcome) (indent : ℕ) (ns cs out : List ℕ) (n c b : ℕ)
-    → let a = W.answer indent o ns cs out in a ≡ Accepted n c b → b ≤ length (W.written a (printOf indent o) out)
-unfolding W.answer W.fitted printOf
-says-in (refused e p l) indent ns cs out n c b h = absurd (clash _ _ _ _ _ _ h)
-says-in (read ds) indent ns cs out n c b h =
-    fitted-in (ltb (room ns) (length (nodeRows ds))) (ltb (room cs) (length (notes ds))) (ltb (length out) (length (printed indent ds))) _ _ (printed indent ds) out n c b h
+says-in : (o : Outcome (List Definition)) (indent : ℕ) (ns cs out ks : List ℕ)
+    → let a = W.answer indent o ns cs out in a ≡ accepted ks → bytesWritten ks ≤ length (W.written a (printOf indent o) out)
+unfolding W.answer fitted printOf
+says-in (refused e p l) indent ns cs out ks h = absurd (clash _ _ _ _ h)
+says-in (accepted ds) indent ns cs out ks h =
+    fitted-in (ltb (room ns) (length (nodeRows ds))) (ltb (room cs) (length (notes ds))) _ _ _ (printed indent ds) out ks refl h
 
-printing-in : (t : List ℕ) (indent : ℕ) (ns cs out : List ℕ) (n c b : ℕ)
-    → printing t indent ns cs out .says ≡ Accepted n c b → b ≤ length (printing t indent ns cs out .output)
+printing-in : (t : List ℕ) (indent : ℕ) (ns cs out ks : List ℕ)
+    → printing t indent ns cs out .says ≡ accepted ks → bytesWritten ks ≤ length (printing t indent ns cs out .output)
 unfolding printing
-printing-in t indent ns cs out n c b h = says-in (outcomeAt indent (checked t) t) indent ns cs out n c b h
+printing-in t indent ns cs out ks h = says-in (outcomeAt indent t) indent ns cs out ks h
 
 pub lent-in : (z n most : ℕ) → z ≡ min n most → z ≤ most
 lent-in z n most h = omega arith
@@ -141,23 +142,24 @@ module _ (out out′ : List ℕ) (z : ℕ) (h : length out′ ≡ length (take z
   pub written-in : (t : List ℕ) (indent : ℕ) (ns cs ns′ cs′ : List ℕ) (p : Printed)
       → told p ns′ cs′ out′ ≡ printing t indent ns cs (take z out)
       → (n c b : ℕ) → p ≡ Accepted n c b → b ≤ length (take z (out′ ++ drop z out))
+  unfolding said
   written-in t indent ns cs ns′ cs′ p e n c b q =
       rw lent-out
-      (rw (ap (λ (w : Printing). w .output) e) (printing-in t indent ns cs (take z out) n c b (sym (ap (λ (w : Printing). w .says) e) ∙ q)))
+      (rw (ap (λ (w : Printing). w .output) e) (printing-in t indent ns cs (take z out) (n ∷ c ∷ b ∷ []) (sym (ap (λ (w : Printing). w .says) e) ∙ ap said q)))
 
 pub print-is : (space space′ ns ns′ cs cs′ out out′ : List ℕ) (file indent a b c x y z r : ℕ) (p : Printed)
     → x ≡ min a (length ns) → y ≡ min b (length cs) → z ≡ min c (length out)
     → length out′ ≡ length (take z out)
     → told p ns′ cs′ out′ ≡ printing (take file space) indent (take x ns) (take y cs) (take z out)
-    → fileOf r space′ ≡ keptIn p (take z (out′ ++ drop z out)) (fileOf file space)
+    → fileOf r space′ ≡ keptIn (said p) (take z (out′ ++ drop z out)) (fileOf file space)
     → memory r space′ (ns′ ++ drop x ns) (cs′ ++ drop y cs) (out′ ++ drop z out)
     ≡ after indent (ask true a b c) (memory file space ns cs out)
 unfolding after settled callOf gives
 print-is space space′ ns ns′ cs cs′ out out′ file indent a b c x y z r p i j k l e s =
     let q : told p ns′ cs′ out′ ≡ printing (take file space) indent (take a ns) (take b cs) (take c out) =
     e ∙ rw (i, j, k, take-min a ns, take-min b cs, take-min c out) in
-    let f : fileOf r space′ ≡ keptIn p out′ (fileOf file space) =
-    s ∙ ap (λ (o : List ℕ). keptIn p o (fileOf file space)) (lent-out out out′ z l (omega arith)) in
+    let f : fileOf r space′ ≡ keptIn (said p) out′ (fileOf file space) =
+    s ∙ ap (λ (o : List ℕ). keptIn (said p) o (fileOf file space)) (lent-out out out′ z l (omega arith)) in
     ap (λ (g : File). record { file = g; nodes = ns′ ++ drop x ns; comments = cs′ ++ drop y cs; output = out′ ++ drop z out }) f
     ∙ rw (i, j, k, drop-min a ns, drop-min b cs, drop-min c out)
     (ap (λ (w : Printing). settled (ask true a b c) (has-printed w) (memory file space ns cs out)) q)
@@ -176,29 +178,29 @@ module _ (indent a b c : ℕ) (file : ℕ) (space ns cs out : List ℕ) where
   call-prints prints m h e = rw h e
 
 -- the file lies in its space, which stays as long as it is
-written-long : (n c b : ℕ) (out s : List ℕ) → b ≤ length s → length (W.written (Accepted n c b) (take b out) s) ≡ length s
+written-long : (ns : List ℕ) (b : ℕ) (out s : List ℕ) → b ≤ length s → length (W.written (accepted ns) (take b out) s) ≡ length s
 unfolding W.written
-written-long n c b out s h = simp (length-append, length-replicate, length-take) (omega arith)
+written-long ns b out s h = simp (length-append, length-replicate, length-take) (omega arith)
 
 module _ (f : File) where
   size-by : (b : ℕ) (s : List ℕ) (x : Bool) → leb b (length (f .space)) ≡ x → f .size ≤ length (f .space) → cond x (fileOf b s) f .size ≤ length (f .space)
   size-by b s true e h = leb-true _ _ e
   size-by b s false e h = h
 
-  space-by : (n c b : ℕ) (out : List ℕ) (x : Bool) → leb b (length (f .space)) ≡ x
-      → length (cond x (fileOf b (W.written (Accepted n c b) (take b out) (f .space))) f .space) ≡ length (f .space)
-  space-by n c b out true e = written-long n c b out (f .space) (leb-true _ _ e)
-  space-by n c b out false e = refl
+  space-by : (ns : List ℕ) (b : ℕ) (out : List ℕ) (x : Bool) → leb b (length (f .space)) ≡ x
+      → length (cond x (fileOf b (W.written (accepted ns) (take b out) (f .space))) f .space) ≡ length (f .space)
+  space-by ns b out true e = written-long ns b out (f .space) (leb-true _ _ e)
+  space-by ns b out false e = refl
 
-  kept-size : (p : Printed) (out : List ℕ) → f .size ≤ length (f .space) → keptIn p out f .size ≤ length (f .space)
+  kept-size : (a : Outcome (List ℕ)) (out : List ℕ) → f .size ≤ length (f .space) → keptIn a out f .size ≤ length (f .space)
   unfolding keptIn
-  kept-size (Refused e p n) out h = h
-  kept-size (Accepted n c b) out h = size-by b _ _ refl h
+  kept-size (refused e p n) out h = h
+  kept-size (accepted ns) out h = size-by (bytesWritten ns) _ _ refl h
 
-  kept-space : (p : Printed) (out : List ℕ) → length (keptIn p out f .space) ≡ length (f .space)
+  kept-space : (a : Outcome (List ℕ)) (out : List ℕ) → length (keptIn a out f .space) ≡ length (f .space)
   unfolding keptIn
-  kept-space (Refused e p n) out = refl
-  kept-space (Accepted n c b) out = space-by n c b out _ refl
+  kept-space (refused e p n) out = refl
+  kept-space (accepted ns) out = space-by ns (bytesWritten ns) out _ refl
 
 pub size-in : (indent : ℕ) (q : Request) (m : Memory) → m .file .size ≤ length (m .file .space) → after indent q m .file .size ≤ length (m .file .space)
 unfolding after settled callOf gives

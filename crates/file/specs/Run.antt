@@ -9,11 +9,10 @@ use Rattle.token.specs.Breaks.{Bytes}
 use Rattle.ast.specs.Ast.{Definition}
 use Rattle.ast.specs.Lists.{All}
 use Rattle.ast.specs.Numbered.{Numbered}
-use Rattle.parser.specs.Read.{read, outcome}
+use Rattle.lexer.specs.Outcome.{Outcome, accepted, refused}
+use Rattle.parser.specs.Read.{outcome}
 use Rattle.writer.specs.Print.{printed}
-use Rattle.writer.specs.declared.Printed.{Printed}
-use Rattle.writer.specs.declared.Printed.the-variants.{Accepted, Refused}
-use Rattle.writer.specs.Write.{written}
+use Rattle.writer.specs.Write.{bytesWritten, written}
 use Rattle.demand.specs.Calls.{Call, reads, prints, Given, has-read, has-printed, gives, Entry, entry, trace}
 use Rattle.demand.specs.Demand.{printsIt, Premise, Stays, Fixed, Alike}
 
@@ -56,9 +55,11 @@ callOf (ask true a b c) m = prints (take a (m .nodes)) (take b (m .comments)) (t
 callOf (ask false a b c) m = reads (take a (m .nodes)) (take b (m .comments))
 
 -- an accepted printing makes the bytes it wrote the file, if its space holds them; what lies past them is 0, as in an output
-unfoldable pub keptIn : Printed → List ℕ → File → File
-keptIn (Accepted n c b) out f = cond (leb b (length (f .space))) (fileOf b (written (Accepted n c b) (take b out) (f .space))) f
-keptIn (Refused e p n) out f = f
+unfoldable pub keptIn : Outcome (List ℕ) → List ℕ → File → File
+keptIn (accepted ns) out f =
+    let b = bytesWritten ns in
+    cond (leb b (length (f .space))) (fileOf b (written (accepted ns) (take b out) (f .space))) f
+keptIn (refused e p n) out f = f
 
 -- the memory after a call: what was lent is as the call leaves it
 unfoldable pub settled : Request → Given → Memory → Memory
@@ -98,7 +99,7 @@ pub record Kept (indent : ℕ) (t : List ℕ) (ds : List Definition) (cs : List 
   -- the print is accepted, has the same definitions, and is its own print
   pub fixed : Fixed indent ds
   -- another numbered text prints alike exactly when its definitions agree
-  pub alike : (u : List ℕ) (es : List Definition) → Bytes u → outcome u ≡ read es → All Numbered es → Alike indent ds es
+  pub alike : (u : List ℕ) (es : List Definition) → Bytes u → outcome u ≡ accepted es → All Numbered es → Alike indent ds es
 
 -- so it is of every file that the premise holds of, in a space that holds its print
 abbrev pub Unaltered : ℕ → List Request → Memory → List ℕ → Type 0

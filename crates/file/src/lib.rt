@@ -9,6 +9,7 @@ ghost use lib.ListN.{length, take, drop, getD};
 ghost use Rattle.parser.specs.Read.{reading};
 ghost use Rattle.file.specs.Run.{ask, requestsOf, fileOf, memory, keptIn, after, runs, Unaltered};
 ghost use Rattle.writer.specs.declared.Printed.the-variants.{Accepted};
+ghost use Rattle.writer.specs.Write.{said};
 use writer::Printed;
 
 // A reading or a printing, and how many numbers of each table and bytes of the output it is lent.
@@ -53,7 +54,7 @@ fn read_file(text: &[u8], request: Request, nodes: &mut [u32], comments: &mut [u
 // Makes printed bytes the file, with 0 behind them, if its space holds them; the length of the file afterwards.
 fn store(space: &mut [u8], file: usize, printed: Printed, out: &[u8]) -> usize
     requires { ⌜ ((n c b : ℕ) → printed ≡ Accepted n c b → b ≤ length (now out)) ⌝ }
-    ensures { λ r. ⌜ fileOf r (now (space .exit)) ≡ keptIn printed (now (out .entry)) (fileOf file (now (space .entry))) ⌝ }
+    ensures { λ r. ⌜ fileOf r (now (space .exit)) ≡ keptIn (said printed) (now (out .entry)) (fileOf file (now (space .entry))) ⌝ }
 {
     let Printed::Accepted {
         nodes: _,

@@ -3,7 +3,7 @@ use mathlib.Core.Bool.{cond}
 use mathlib.Core.List.{List, [], _∷_, _++_}
 use Prim.Native.Nat.{ℕ, _-_}
 use lib.Dec.{ltb}
-use lib.ListN.{length, replicate}
+use lib.ListN.{length, getD, replicate}
 use Rattle.lexer.specs.Outcome.{Outcome, accepted, refused}
 use Rattle.lexer.specs.Check.{limit}
 use Rattle.ast.specs.Ast.{Definition}
@@ -25,6 +25,10 @@ outcomeAt indent t = cond (ltb limit (length t)) (refused 20 0 0) (cond (ltb wid
 unfoldable pub fittedOut : Outcome (List ℕ) → List ℕ → List ℕ → Outcome (List ℕ)
 fittedOut (accepted ns) print out = cond (ltb (length out) (length print)) (refused 27 0 0) (accepted (ns ++ length print ∷ []))
 fittedOut (refused e p n) print out = refused e p n
+
+-- the bytes written, of an accepted printing's numbers
+abbrev pub bytesWritten : List ℕ → ℕ
+bytesWritten ns = getD ns 2 0
 
 -- 24 and 25 as in a reading, then 27
 unfoldable pub answer : ℕ → Outcome (List Definition) → List ℕ → List ℕ → List ℕ → Outcome (List ℕ)
