@@ -1,4 +1,4 @@
-/* What the wrappers test: null, zero lengths, alignment, overlap. Says which fails. */
+/* What the wrappers test: null, zero lengths, alignment, overlap; and a run. Says which fails. */
 #include "hirvelan.h"
 #include <stdio.h>
 #include <string.h>
@@ -54,5 +54,22 @@ int main(void) {
     expect(few[0] == 22 && few[1] == 8 && few[2] == 7, "an answer of two numbers gets two");
     hirvelan_check((const uint8_t *)"enum E{}@", 9, few, 4);
     expect(few[0] == 22 && few[1] == 8 && few[2] == 0 && few[3] == 0 && few[4] == 7, "an answer of four numbers gets three, and 0");
+
+    {
+        static const hirvelan_request calls[] = {{1, 62, 9, 64}, {1, 63, 0, 37}, {0, 63, 0, 0}, {1, 63, 0, 38}, {1, 0xffffffffu, 0xffffffffu, 0xffffffffu}};
+        uint8_t space[64];
+        size_t length = 7;
+        memset(space, 7, sizeof space);
+        memcpy(space, text, n);
+        expect(hirvelan_run_safe(NULL, 0, 5, 2, NULL, 0, NULL, 0, NULL, 0, NULL, 0, &length) == HIRVELAN_OK && length == 0, "a run of nothing");
+        expect(hirvelan_run_safe(space, sizeof space, n, 2, calls, 2, nodes, HIRVELAN_NODES(n), comments, HIRVELAN_COMMENTS(n), out, sizeof out, &length) == HIRVELAN_OK && length == n && !memcmp(space, text, n) && space[n] == 7, "a run of refused printings leaves file and space");
+        expect(hirvelan_run_safe(space, sizeof space, n, 2, calls, 5, nodes, HIRVELAN_NODES(n), comments, HIRVELAN_COMMENTS(n), out, sizeof out, &length) == HIRVELAN_OK && length == 38 && !memcmp(space, "struct A {\n  1: required i32 a = 5,\n}\n", 38) && !space[38] && !space[63], "a run that prints");
+        expect(hirvelan_run_safe(space, 38, 1000, 2, calls, 5, nodes, HIRVELAN_NODES(n), comments, HIRVELAN_COMMENTS(n), out, sizeof out, &length) == HIRVELAN_OK && length == 38 && !memcmp(space, out, 38), "a run again, of a file held to its space");
+        expect(hirvelan_run_safe(space, sizeof space, n, 2, calls, 5, nodes, HIRVELAN_NODES(n), comments, HIRVELAN_COMMENTS(n), space + 60, 4, &length) == HIRVELAN_OVERLAP, "a run into its own space");
+        expect(hirvelan_run_safe(space, sizeof space, n, 2, (const hirvelan_request *)(const void *)nodes, 1, nodes, 9, comments, 9, out, sizeof out, &length) == HIRVELAN_OVERLAP, "a run into its own requests");
+        expect(hirvelan_run_safe(space, sizeof space, n, 2, NULL, 1, nodes, 9, comments, 9, out, sizeof out, &length) == HIRVELAN_NULL, "a run of null and 1");
+        expect(hirvelan_run_safe(space, sizeof space, n, 2, calls, (size_t)-1, nodes, 9, comments, 9, out, sizeof out, &length) == HIRVELAN_LENGTH, "a run of more requests than there can be");
+        expect(hirvelan_run_safe(space, sizeof space, n, 2, calls, 1, nodes, 9, comments, 9, out, sizeof out, NULL) == HIRVELAN_NULL, "a run without a place for the length");
+    }
     return failed;
 }

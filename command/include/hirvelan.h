@@ -46,6 +46,14 @@ void hirvelan_print(const uint8_t *text, size_t text_length, uint32_t indent, ui
  * The caller sees to: no pointer is null; each is valid for its length; place is aligned and does not overlap the text. */
 void hirvelan_place(const uint8_t *text, size_t text_length, uint32_t offset, uint32_t *place, size_t place_length);
 
+/* Readings and printings of one file, one after another; gives the length of the file afterwards. The file is the first `file` bytes of its space, all of it if `file` is more.
+ * A request is four numbers: 0 for a reading, else a printing with `indent` spaces a level; how many numbers of `nodes` and of `comments` and bytes of `out` the call is lent, all if there are fewer.
+ * Numbers behind the last whole request are passed over. An accepted printing makes the bytes it wrote the file, with zeros behind them, if the space holds them;
+ * any other call leaves file and space. What a call is lent is afterwards as in hirvelan_read and hirvelan_print.
+ * No list of requests alters a file once printed, whose fields are numbered and whose print has at most HIRVELAN_LONGEST bytes (proved, crates/file/specs/Run).
+ * The caller sees to: no pointer is null, also if its length is 0; each is valid for its length and aligned; space, nodes, comments and out overlap neither each other nor the requests. */
+size_t hirvelan_run(uint8_t *space, size_t space_length, size_t file, uint32_t indent, const uint32_t *requests, size_t requests_length, uint32_t *nodes, size_t nodes_length, uint32_t *comments, size_t comments_length, uint8_t *out, size_t out_length);
+
 /* ---- wrappers. Null with length 0 is an empty slice. They give HIRVELAN_OK, or say why the library was not called.
  * What they can't test either: that a pointer is valid for its length. */
 
@@ -60,6 +68,11 @@ typedef struct {
 typedef struct {
     uint32_t line, column, offset;
 } hirvelan_spot;
+
+/* A request of a run. */
+typedef struct {
+    uint32_t prints, nodes, comments, out;
+} hirvelan_request;
 
 /* What is lent, as bytes. */
 typedef struct {
@@ -160,6 +173,24 @@ static inline int hirvelan_place_safe(const uint8_t *text, size_t text_length, u
     spot->line = said[0];
     spot->column = said[1];
     spot->offset = said[2];
+    return HIRVELAN_OK;
+}
+
+/* Tests: null, alignment, overlap. `length` gets the length of the file. */
+static inline int hirvelan_run_safe(uint8_t *space, size_t space_length, size_t file, uint32_t indent, const hirvelan_request *requests, size_t count, uint32_t *nodes, size_t nodes_length, uint32_t *comments, size_t comments_length, uint8_t *out, size_t out_length, size_t *length) {
+    uint32_t empty[3] = {0, 0, 0};
+    uint8_t nothing[2] = {0, 0};
+    hirvelan_part parts[5];
+    int fault = hirvelan_part_of(space, space_length, 1, &parts[0]);
+    if (!fault && count > (size_t)PTRDIFF_MAX / 16) fault = HIRVELAN_LENGTH;
+    if (!fault) fault = hirvelan_part_of(requests, 4 * count, 4, &parts[1]);
+    if (!fault) fault = hirvelan_part_of(nodes, nodes_length, 4, &parts[2]);
+    if (!fault) fault = hirvelan_part_of(comments, comments_length, 4, &parts[3]);
+    if (!fault) fault = hirvelan_part_of(out, out_length, 1, &parts[4]);
+    if (!fault) fault = hirvelan_apart(parts, 5);
+    if (!fault && !length) fault = HIRVELAN_NULL;
+    if (fault) return fault;
+    *length = hirvelan_run(space ? space : &nothing[0], space_length, file, indent, requests ? &requests->prints : &empty[0], 4 * count, nodes ? nodes : &empty[1], nodes_length, comments ? comments : &empty[2], comments_length, out ? out : &nothing[1], out_length);
     return HIRVELAN_OK;
 }
 

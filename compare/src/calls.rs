@@ -1,7 +1,7 @@
 //! Demand 3: lists of readings and printings at one indent, on one file.
 
 use crate::random::Rng;
-use crate::sides::{fault, wanted, Fault, Port, Source, Wanted, INDENTS, LONGEST};
+use crate::sides::{fault, wanted, Fault, Port, Request, Source, Wanted, INDENTS, LONGEST};
 
 /// Does each field, parameter and thrown field begin with an integer token? Its first child is an id then.
 pub fn numbered(nodes: &[u32]) -> bool {
@@ -63,7 +63,7 @@ fn compared(wanted: &Wanted) -> bool {
     matches!(wanted.source, Source::Rico | Source::CutOtherwise)
 }
 
-/// One list of calls. None: the text is outside the claim's premise. Else the number of accepted printings.
+/// One list of calls, one by one and by one run. None: the text is outside the claim's premise. Else the number of accepted printings.
 pub fn list(port: &mut Port, text: &[u8], indent: usize, length: usize, rng: &mut Rng) -> Result<Option<usize>, Fault> {
     let first = wanted(text, Some(indent));
     if !compared(&first) || first.refusal.is_some() || !numbered(&first.nodes) || first.prints[indent].len() > LONGEST {
@@ -82,13 +82,16 @@ pub fn list(port: &mut Port, text: &[u8], indent: usize, length: usize, rng: &mu
     }
     let mut file = text.to_vec();
     let mut printings = 0;
+    let mut requests = Vec::with_capacity(length);
     for _ in 0..length {
         let (now, stands): (&Wanted, &[u8]) = if printings > 0 { (&second, &print) } else { (&first, text) };
         let (nodes, comments) = (size(rng, now.nodes.len(), 9), size(rng, now.comments.len(), 9));
         if rng.percent(45) {
+            requests.push(Request { prints: false, nodes, comments, out: 0 });
             port.read(&file, now, nodes, comments, rng)?;
         } else {
             let out = size(rng, print.len(), 1);
+            requests.push(Request { prints: true, nodes, comments, out });
             if port.print(&file, now, indent as u32, nodes, comments, out, rng)? {
                 printings += 1;
                 file = port.out.part()[..print.len()].to_vec();
@@ -99,6 +102,12 @@ pub fn list(port: &mut Port, text: &[u8], indent: usize, length: usize, rng: &mu
             return Err(fault("demand 3: the file is altered", format!("indent {indent}")));
         }
     }
+    // the same calls by one run; sometimes in a space that the print may not fit
+    let room = match rng.below(4) {
+        0 => text.len() + rng.below(3) * rng.below(20),
+        _ => text.len().max(print.len()) + rng.below(40),
+    };
+    port.run(text, &first, &second, indent as u32, &requests, room, rng)?;
     Ok(Some(printings))
 }
 

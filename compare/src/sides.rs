@@ -168,6 +168,7 @@ extern "C" {
     fn hirvelan_check(text: *const u8, length: usize, answer: *mut u32, answer_length: usize);
     fn hirvelan_read(text: *const u8, length: usize, nodes: *mut u32, nodes_length: usize, comments: *mut u32, comments_length: usize, answer: *mut u32, answer_length: usize);
     fn hirvelan_print(text: *const u8, length: usize, indent: u32, nodes: *mut u32, nodes_length: usize, comments: *mut u32, comments_length: usize, out: *mut u8, out_length: usize, answer: *mut u64, answer_length: usize);
+    fn hirvelan_run(space: *mut u8, space_length: usize, file: usize, indent: u32, requests: *const u32, requests_length: usize, nodes: *mut u32, nodes_length: usize, comments: *mut u32, comments_length: usize, out: *mut u8, out_length: usize) -> usize;
 }
 
 pub trait Cell: Copy + PartialEq + std::fmt::Display {
@@ -238,11 +239,35 @@ impl<T: Cell> Lent<T> {
         self.guards()
     }
 
+    /// The first cell that is not as wanted, or outside.
+    fn differs_whole(&self, wanted: &[T]) -> Option<String> {
+        let part = self.part();
+        if let Some(at) = (0..part.len()).find(|at| part[*at] != wanted[*at]) {
+            return Some(format!("[{at}] of {}: {} wanted, {} given", part.len(), wanted[at], part[at]));
+        }
+        self.guards()
+    }
+
     fn guards(&self) -> Option<String> {
         let whole = self.length + 2 * GUARD;
         let at = (0..GUARD).chain(self.length + GUARD..whole).find(|at| self.cells[*at] != T::pattern(self.seed, *at))?;
         Some(format!(": a cell outside the slice, at {}", at as isize - GUARD as isize))
     }
+}
+
+/// A slice as a call leaves it: `front`, then zeros.
+fn leave<T: Cell>(slice: &mut [T], front: &[T]) {
+    slice[..front.len()].copy_from_slice(front);
+    slice[front.len()..].fill(T::ZERO);
+}
+
+/// A call of a run: a reading or a printing, and how much of both tables and of the output it is lent.
+#[derive(Clone, Copy)]
+pub struct Request {
+    pub prints: bool,
+    pub nodes: usize,
+    pub comments: usize,
+    pub out: usize,
 }
 
 /// A difference: what kind it is of, and both answers.
@@ -261,6 +286,7 @@ pub struct Port {
     pub nodes: Lent<u32>,
     pub comments: Lent<u32>,
     pub out: Lent<u8>,
+    space: Lent<u8>,
     answer: Lent<u32>,
     printed: Lent<u64>,
     pub calls: u64,
@@ -270,7 +296,7 @@ pub struct Port {
 
 impl Port {
     pub fn new() -> Self {
-        Port { nodes: Lent::new(), comments: Lent::new(), out: Lent::new(), answer: Lent::new(), printed: Lent::new(), calls: 0, answers: [0; 28] }
+        Port { nodes: Lent::new(), comments: Lent::new(), out: Lent::new(), space: Lent::new(), answer: Lent::new(), printed: Lent::new(), calls: 0, answers: [0; 28] }
     }
 
     pub fn check(&mut self, text: &[u8], wanted: &Wanted) -> Result<(), Fault> {
@@ -343,5 +369,53 @@ impl Port {
             }
         }
         Ok(answer[0] == 0)
+    }
+
+    /// A list of calls on one file by one run, in a space of so many bytes. `first` is what the text gives, `second` what its print gives.
+    pub fn run(&mut self, text: &[u8], first: &Wanted, second: &Wanted, indent: u32, requests: &[Request], room: usize, rng: &mut Rng) -> Result<(), Fault> {
+        self.calls += 1;
+        let most = |of: fn(&Request) -> usize| requests.iter().map(of).max().unwrap_or(0);
+        let (nodes, comments, out) = (most(|r| r.nodes) + rng.below(12), most(|r| r.comments) + rng.below(12), most(|r| r.out) + rng.below(12));
+        let seed = rng.next() as u32;
+        let (n, c, o) = (self.nodes.lend(nodes, seed), self.comments.lend(comments, !seed), self.out.lend(out, seed >> 7));
+        self.space.lend(room, seed >> 3);
+        self.space.cells[GUARD..GUARD + text.len()].copy_from_slice(text);
+        let (mut node_cells, mut comment_cells) = (self.nodes.part().to_vec(), self.comments.part().to_vec());
+        let (mut out_cells, mut space, mut length) = (self.out.part().to_vec(), self.space.part().to_vec(), text.len());
+        let (mut now, mut numbers) = (first, Vec::new());
+        for request in requests {
+            numbers.extend([u32::from(request.prints) * (1 + rng.below(9) as u32), request.nodes as u32, request.comments as u32, request.out as u32]);
+            let (node_rows, comment_rows);
+            if request.prints {
+                let (answer, rows, notes, print) = now.printing(indent, request.nodes, request.comments, request.out);
+                (node_rows, comment_rows) = (rows, notes);
+                leave(&mut out_cells[..request.out], print);
+                if answer[0] == 0 && print.len() <= room {
+                    leave(&mut space, print);
+                    (length, now) = (print.len(), second);
+                }
+            } else {
+                (_, node_rows, comment_rows) = now.reading(request.nodes, request.comments);
+            }
+            leave(&mut node_cells[..request.nodes], node_rows);
+            leave(&mut comment_cells[..request.comments], comment_rows);
+        }
+        // a file is held to its space
+        let file = if room == text.len() { room + rng.below(99) } else { text.len() };
+        let s = self.space.cells[GUARD..].as_mut_ptr();
+        let given = unsafe { hirvelan_run(s, room, file, indent, numbers.as_ptr(), numbers.len(), n, nodes, c, comments, o, out) };
+        let parts = [
+            ("length", (given != length).then(|| format!(": {length} wanted, {given} given"))),
+            ("space", self.space.differs_whole(&space)),
+            ("nodes", self.nodes.differs_whole(&node_cells)),
+            ("comments", self.comments.differs_whole(&comment_cells)),
+            ("output", self.out.differs_whole(&out_cells)),
+        ];
+        for (part, differs) in parts {
+            if let Some(first) = differs {
+                return Err(Fault { kind: format!("run, {part}"), said: format!("indent {indent}, {} calls, a space of {room}: {part}{first}; requests {numbers:?}", requests.len()) });
+            }
+        }
+        Ok(())
     }
 }

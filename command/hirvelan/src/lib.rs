@@ -4,7 +4,7 @@
 //! They ask nothing of a text, an indent, a table's length or what is in it. What they cannot say, and what each function here sees to:
 //!
 //! - pointers are not null and valid for their lengths: each comes from a slice;
-//! - nothing that is lent for writing overlaps: each table is an allocation of its own, and the text is borrowed for reading only.
+//! - nothing that is lent for writing overlaps: each table is an allocation of its own or the caller's `&mut`, and the text is borrowed for reading only.
 
 mod raw;
 
@@ -46,6 +46,15 @@ pub type Record = [u32; WIDTH];
 pub struct Reading {
     pub nodes: Vec<Record>,
     pub comments: Vec<Record>,
+}
+
+/// A call of `run`: a reading or a printing, and how many numbers of each table and bytes of the output it is lent, all if there are fewer.
+#[derive(Clone, Copy, Debug, PartialEq, Eq)]
+pub struct Request {
+    pub prints: bool,
+    pub nodes: u32,
+    pub comments: u32,
+    pub out: u32,
 }
 
 /// Room for the records of every text as long as this one.
@@ -102,9 +111,57 @@ pub fn place(text: &[u8], offset: u32) -> Place {
     Place { line, column, offset }
 }
 
+/// Makes readings and printings of one file, one after another, with so many spaces a level; the length of the file afterwards.
+/// The file is the first `file` bytes of its space, all of it if `file` is more. An accepted printing makes the bytes it wrote the file, with zeros behind them, if the space holds them.
+/// No list of requests alters a file once printed, whose fields are numbered and whose print has at most `LONGEST` bytes.
+pub fn run(space: &mut [u8], file: usize, indent: u32, requests: &[Request], nodes: &mut [u32], comments: &mut [u32], out: &mut [u8]) -> usize {
+    let numbers: Vec<u32> = requests.iter().flat_map(|r| [u32::from(r.prints), r.nodes, r.comments, r.out]).collect();
+    raw::run(space, file, indent, &numbers, nodes, comments, out)
+}
+
 #[cfg(test)]
 mod tests {
     use super::*;
+
+    const ALL: u32 = u32::MAX;
+
+    fn call(prints: bool, nodes: u32, comments: u32, out: u32) -> Request {
+        Request { prints, nodes, comments, out }
+    }
+
+    #[test]
+    fn a_run_prints_and_stays() {
+        let text = b"struct A{1:required i32 a=5;}";
+        let print = b"struct A {\n  1: required i32 a = 5,\n}\n";
+        let mut space = vec![7; 50];
+        space[..text.len()].copy_from_slice(text);
+        let (mut nodes, mut comments, mut out) = (vec![7; 80], vec![7; 10], vec![7; 60]);
+        // 24 and 27 leave the file; what the calls were not lent stays too
+        let length = run(&mut space, text.len(), 2, &[call(true, 62, ALL, ALL), call(true, 63, 0, 37)], &mut nodes, &mut comments, &mut out);
+        assert_eq!((length, &space[..29], &space[29..]), (29, &text[..], &[7; 21][..]));
+        assert_eq!((&nodes[..63], &nodes[63..], &comments[..], &out[..]), (&[0; 63][..], &[7; 17][..], &[0; 10][..], &[0; 60][..]));
+        // a printing is kept, with zeros behind it
+        let length = run(&mut space, length, 2, &[call(false, ALL, ALL, 0), call(true, 63, 0, 38)], &mut nodes, &mut comments, &mut out);
+        assert_eq!((length, &space[..38], &space[38..]), (38, &print[..], &[0; 12][..]));
+        assert_eq!((&out[..38], nodes[0]), (&print[..], 7));
+        // and stays
+        let again = run(&mut space, length, 2, &[call(true, ALL, ALL, ALL), call(false, 0, 0, 0), call(true, 63, 9, 38)], &mut nodes, &mut comments, &mut out);
+        assert_eq!((again, &space[..38], &space[38..]), (38, &print[..], &[0; 12][..]));
+    }
+
+    #[test]
+    fn a_run_holds_the_file_to_its_space() {
+        let text = b"enum E{A}";
+        let (mut nodes, mut comments, mut out) = (vec![0; 90], vec![0; 9], vec![0; 90]);
+        let mut space = text.to_vec();
+        // its print is longer than the space, so the file stays
+        assert_eq!(run(&mut space, 1000, 2, &[call(true, ALL, ALL, ALL)], &mut nodes, &mut comments, &mut out), 9);
+        assert_eq!((&space[..], &out[..16]), (&text[..], &b"enum E {\n  A,\n}\n"[..]));
+        assert_eq!(run(&mut space, 9, 9, &[call(true, ALL, ALL, ALL)], &mut nodes, &mut comments, &mut out), 9);
+        assert_eq!((&space[..], &out[..]), (&text[..], &[0; 90][..]));
+        assert_eq!(run(&mut [], 5, 2, &[call(true, ALL, ALL, ALL)], &mut [], &mut [], &mut []), 0);
+        assert_eq!(run(&mut space, 4, 2, &[], &mut nodes, &mut comments, &mut out), 4);
+    }
 
     #[test]
     fn the_last_edge() {

@@ -8,6 +8,10 @@ extern "C" {
         out: *mut u8, out_length: usize, answer: *mut u64, answer_length: usize,
     );
     fn hirvelan_place(text: *const u8, length: usize, offset: u32, place: *mut u32, place_length: usize);
+    fn hirvelan_run(
+        space: *mut u8, space_length: usize, file: usize, indent: u32, requests: *const u32, requests_length: usize,
+        nodes: *mut u32, nodes_length: usize, comments: *mut u32, comments_length: usize, out: *mut u8, out_length: usize,
+    ) -> usize;
 }
 
 // In each call below: a slice's pointer is not null, aligned and valid for its length, an empty one's too;
@@ -45,4 +49,13 @@ pub fn place(text: &[u8], offset: u32) -> [u32; 3] {
     let mut place = [0; 3];
     unsafe { hirvelan_place(text.as_ptr(), text.len(), offset, place.as_mut_ptr(), place.len()) };
     place
+}
+
+pub fn run(space: &mut [u8], file: usize, indent: u32, requests: &[u32], nodes: &mut [u32], comments: &mut [u32], out: &mut [u8]) -> usize {
+    unsafe {
+        hirvelan_run(
+            space.as_mut_ptr(), space.len(), file, indent, requests.as_ptr(), requests.len(),
+            nodes.as_mut_ptr(), nodes.len(), comments.as_mut_ptr(), comments.len(), out.as_mut_ptr(), out.len(),
+        )
+    }
 }
