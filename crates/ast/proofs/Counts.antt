@@ -4,7 +4,6 @@
 --     row-width                   each record has as many numbers as the width says
 --     concat-width                so a table of records has as many times that
 --     filled-length               and is as long afterwards as it was lent
--- Assumes nothing.
 use mathlib.Core.Path.{_≡_, refl, ap}
 use mathlib.Core.List.{List, [], _∷_, _++_}
 use Prim.Native.Nat.{ℕ, suc, _+_, _*_, _-_, _≤_}

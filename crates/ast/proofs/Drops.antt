@@ -1,7 +1,6 @@
 -- What dropParams drops is dropped once, before places are forgotten or after.
 --     drop-forget   the order does not matter
 --     drop-twice    a second drop drops nothing
--- Assumes nothing.
 use mathlib.Core.Path.{_≡_, refl, ap}
 use mathlib.Core.List.{List, [], _∷_}
 use mathlib.Core.Option.{Option, some, none}

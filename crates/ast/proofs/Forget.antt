@@ -1,4 +1,4 @@
--- Trees without their places, and without what write_param drops. Assumes nothing.
+-- Trees without their places, and without what write_param drops.
 use mathlib.Core.List.{List, [], _∷_}
 use Rattle.lexer.specs.declared.location.LOC.{LOC}
 use Rattle.lexer.specs.Tokens.{Lexeme, lexeme}

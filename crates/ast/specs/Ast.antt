@@ -1,4 +1,4 @@
--- The tree that is read, after rico's ast/definitions.rs. Its leaves are lexemes: kind, bytes and place. Assumes nothing: these are definitions.
+-- The tree that is read, after rico's ast/definitions.rs. Its leaves are lexemes: kind, bytes and place.
 use mathlib.Core.Bool.{Bool}
 use mathlib.Core.List.{List}
 use mathlib.Core.Option.{Option}

@@ -1,4 +1,4 @@
--- What rico's write_param drops of parameters and thrown fields: comments, requiredness, annotations. Assumes nothing: these are definitions.
+-- What rico's write_param drops of parameters and thrown fields: comments, requiredness, annotations.
 use mathlib.Core.List.{[]}
 use Rattle.ast.specs.Lists.{maps, opt}
 use Rattle.ast.specs.Ast.{absent, default, Field, field, Function, function, Definition, Include, CppInclude, Namespace, Const, Typedef, Enum, structure, Service}

@@ -1,4 +1,4 @@
--- A function on each of a list, and on what may be there; what holds of each. Assumes nothing: these are definitions.
+-- A function on each of a list, and on what may be there; what holds of each.
 use mathlib.Core.List.{List, [], _∷_}
 use mathlib.Core.Option.{Option, some, none}
 

@@ -1,5 +1,5 @@
 -- When the fields of a file are numbered (document 01, "The file in demand 3"): each field, parameter and thrown field begins with an integer token.
--- By the field rule that token is the id, and a field that begins otherwise has none. Assumes nothing: these are definitions.
+-- By the field rule that token is the id, and a field that begins otherwise has none.
 use mathlib.Core.List.{List}
 use mathlib.Core.Option.{Option, some, none}
 use Rattle.lexer.specs.Tokens.{Lexeme}

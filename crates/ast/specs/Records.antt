@@ -1,4 +1,4 @@
--- Document 01's records: trees laid out as rows of numbers, and the tables that hold them. Assumes nothing: these are definitions.
+-- Document 01's records: trees laid out as rows of numbers, and the tables that hold them.
 use mathlib.Core.Bool.{cond}
 use mathlib.Core.List.{List, [], _∷_, _++_}
 use Prim.Native.Nat.{ℕ, suc, _+_, _-_, _/_}

@@ -1,4 +1,4 @@
--- The nodes of document 01's records as trees: kind, flags, range, bytes, owned comments, children in the order they are read. Assumes nothing.
+-- The nodes of document 01's records as trees: kind, flags, range, bytes, owned comments, children in the order they are read.
 use mathlib.Core.Bool.{Bool, true, false, cond}
 use mathlib.Core.List.{List, [], _∷_}
 use mathlib.Core.Option.{Option, some, none}

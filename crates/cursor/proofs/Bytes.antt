@@ -3,7 +3,6 @@
 --     copy-step, copy-done               a copy, byte by byte
 --     put-in, put-past, put-over         bytes that the output holds, and bytes that it does not
 --     part-past, part-back, part-in      a part that ends behind the text, one that ends before it starts, and one that lies in the text
--- Assumes nothing.
 use mathlib.Core.Path.{_≡_, sym, _∙_}
 use mathlib.Core.List.{List, _++_, append-nil}
 use Prim.Native.Nat.{ℕ, suc, _+_, _*_, _-_, _≤_, _<_}

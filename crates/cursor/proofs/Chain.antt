@@ -1,4 +1,4 @@
--- A function of the printer's code, call by call: Z is what the whole is, and each law takes one call more. Assumes nothing.
+-- A function of the printer's code, call by call: Z is what the whole is, and each law takes one call more.
 --     kept      a call behind which the function goes on
 --     last      the last call, whose cursor is returned; ends: the cursor that is returned as it is
 --     yes, no   a test of two numbers for equality; less, more: for their order; yes-by, no-by: of what a call answered

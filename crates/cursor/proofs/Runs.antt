@@ -4,7 +4,6 @@
 --     comments-none, comments-stop, comments-turn   put_comments
 --     passed-none, passed-stop, passed-turn         pass_comments
 --     below-none, below-stop, below-turn            pass_below
--- Assumes nothing.
 use mathlib.Core.Path.{_≡_, refl, sym, ap, _∙_}
 use mathlib.Core.Bool.{Bool, true, false, cond}
 use mathlib.Core.List.{List, [], _∷_}

@@ -1,5 +1,5 @@
 -- What each step of the printer does to where it stands and to the output, from the text and the two tables. Contracts of this crate and of those above it cite it, and
--- printer/proofs/Meant shows what it means; nothing else has to believe it. Assumes nothing: these are definitions.
+-- printer/proofs/Meant shows what it means; nothing else has to believe it.
 use mathlib.Core.Path.{_≡_}
 use mathlib.Core.Bool.{Bool, true, false, cond}
 use mathlib.Core.List.{List, _++_}

@@ -2,7 +2,6 @@
 --     hit-ascii     the first byte of a token
 --     well-cuts     the lexemes of a text that is cut to its end
 --     fine-tokens   the tokens of a text that the check finds fine
--- Assumes nothing.
 use mathlib.Core.Path.{_≡_, refl}
 use mathlib.Core.Logic.{⊎-elim}
 use mathlib.Core.Bool.{Bool, true, false, cond}

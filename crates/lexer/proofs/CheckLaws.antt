@@ -1,4 +1,4 @@
--- What the whole-text check finds. Assumes nothing.
+-- What the whole-text check finds.
 use mathlib.Core.Path.{_≡_, refl, sym, ap, _∙_}
 use mathlib.Core.Bool.{Bool, true, false, cond}
 use mathlib.Core.List.{List, []}

@@ -2,7 +2,6 @@
 --     hit-fits      a token is never empty and lies inside the text
 --     cuts-hit      the first cut, and the cuts of what is behind it
 --     next-hit      the next token, blanks passed
--- Assumes nothing.
 use mathlib.Core.Path.{_≡_, refl, sym, ap, _∙_, subst}
 use mathlib.Core.Bool.{Bool, cond}
 use mathlib.Core.List.{List, [], _∷_}

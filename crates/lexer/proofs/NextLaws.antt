@@ -4,7 +4,6 @@
 --     tokens-on     the tokens are the next one and those behind it
 --     tokens-end, tokens-unrecognized   where there is no next token there are none
 --     unrecognized-on   the offset where no token starts is the same from behind a token on
--- Assumes nothing.
 use mathlib.Core.Path.{_≡_, refl, sym, ap, _∙_}
 use mathlib.Core.Bool.{Bool, true, false, cond}
 use mathlib.Core.List.{List, [], _∷_}

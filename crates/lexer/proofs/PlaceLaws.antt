@@ -1,4 +1,4 @@
--- Where the lexer stands behind a lexeme. Assumes nothing.
+-- Where the lexer stands behind a lexeme.
 use mathlib.Core.Path.{_≡_, refl, ap, _∙_}
 use mathlib.Core.Bool.{Bool, true, false}
 use mathlib.Core.List.{List, [], _∷_, _++_}

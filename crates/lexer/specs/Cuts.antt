@@ -1,4 +1,4 @@
--- A text cut into lexemes, one longest match after the other, each on the part of the text behind the last. Assumes nothing: these are definitions.
+-- A text cut into lexemes, one longest match after the other, each on the part of the text behind the last.
 use Prim.Native.Nat.{ℕ, zero, suc, _+_, _-_}
 use mathlib.Core.List.{List, [], _∷_}
 use mathlib.Core.Option.{Option, some, none}

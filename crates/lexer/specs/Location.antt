@@ -1,4 +1,4 @@
--- Lines and columns: rico's newline_callback, bind_start_position and bind_end_position. Assumes nothing: these are definitions.
+-- Lines and columns: rico's newline_callback, bind_start_position and bind_end_position.
 use Prim.Native.Nat.{ℕ, _+_, _-_, _≤_}
 use mathlib.Core.Bool.{Bool, true, false, _&&_, _||_}
 use mathlib.Core.List.{List, [], _∷_}

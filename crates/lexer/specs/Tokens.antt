@@ -1,4 +1,4 @@
--- The tokens of a text with their bytes and places, and the next of them. Assumes nothing: these are definitions.
+-- The tokens of a text with their bytes and places, and the next of them.
 use Prim.Native.Nat.{ℕ, _-_}
 use mathlib.Core.Bool.{Bool, cond, _||_}
 use mathlib.Core.List.{List, [], _∷_}

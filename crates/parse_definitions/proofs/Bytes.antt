@@ -28,7 +28,7 @@ use Rattle.steps.proofs.Bytes.{
   comments-rests,
 }
 use Rattle.parse_values.proofs.Bytes.{type-falls, value-falls}
-use Rattle.parse_fields.specs.Into.{nesting}
+use Rattle.parser.specs.Definitions.{nesting}
 use Rattle.parse_fields.proofs.Bytes.{token-falls, name-falls, annotations-rests, fields-falls}
 use Rattle.parse_members.proofs.Bytes.{functions-falls, enum-members-falls}
 use Rattle.parse_definitions.specs.Into.{

@@ -1,4 +1,4 @@
--- What each reader of definitions is, as its first call and what follows it. `recorded`: a definition's own record. Assumes nothing.
+-- What each reader of definitions is, as its first call and what follows it. `recorded`: a definition's own record.
 use mathlib.Core.Path.{_≡_, refl, ap, _∙_}
 use mathlib.Core.Bool.{true, cond}
 use mathlib.Core.List.{List}
@@ -8,7 +8,8 @@ use Rattle.ast.specs.Records.{noParent}
 use Rattle.steps.specs.declared.state.State.{State}
 use Rattle.steps.specs.Into.{putNode, stop, M, Out, _⨟_, advanceIn, advanced, after, done, expectIn, nodeIn, opened, ownIn, refused, skipCommentsIn}
 use Rattle.parse_values.specs.Into.{typeIn, valueIn}
-use Rattle.parse_fields.specs.Into.{nesting, annotationsIn, fieldsIn, nameIn, tokenIn}
+use Rattle.parser.specs.Definitions.{nesting}
+use Rattle.parse_fields.specs.Into.{annotationsIn, fieldsIn, nameIn, tokenIn}
 use Rattle.parse_members.specs.Into.{enumMembersIn, functionsIn}
 use Rattle.parse_definitions.specs.Into.{beginIn, constIn, defineIn, definitionIn, enumIn, extendsIn, includeIn, namespaceIn, ownRecordIn, scopeIn, serviceHeadIn, serviceIn, structureIn, typedNameIn, typedefIn}
 

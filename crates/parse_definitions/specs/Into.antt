@@ -1,6 +1,6 @@
 -- What each reader of a definition, the keyword ahead, does to the state and to both tables: parser/specs/Definitions, with records written as they are read.
 -- The node table is lent from the definition's own record on. Contracts of this crate and of the reader cite it, and proofs/MeantDefinitions shows that it means
--- the definitions; nothing else has to believe it. Assumes nothing: these are definitions.
+-- the definitions; nothing else has to believe it.
 use mathlib.Core.Bool.{true, cond}
 use mathlib.Core.List.{List}
 use Prim.Native.Nat.{ℕ}
@@ -9,7 +9,8 @@ use Rattle.ast.specs.Records.{noParent}
 use Rattle.steps.specs.declared.state.State.{State}
 use Rattle.steps.specs.Into.{M, after, _⨟_, opened, nodeIn, advanced, advanceIn, refused, expectIn, skipCommentsIn, ownIn, done}
 use Rattle.parse_values.specs.Into.{typeIn, valueIn}
-use Rattle.parse_fields.specs.Into.{tokenIn, nameIn, annotationsIn, nesting, fieldsIn}
+use Rattle.parser.specs.Definitions.{nesting}
+use Rattle.parse_fields.specs.Into.{tokenIn, nameIn, annotationsIn, fieldsIn}
 use Rattle.parse_members.specs.Into.{functionsIn, enumMembersIn}
 
 unfoldable pub beginIn : List ℕ → M

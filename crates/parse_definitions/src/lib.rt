@@ -1,13 +1,13 @@
 // Definitions, the keyword ahead (rico's parser/definitions.rs); `rest` is lent from the definition's own record on.
 ghost use Rattle.steps.specs.Into.{Puts, Keeps, Lent, Reads, Quiet};
 ghost use Rattle.parse_definitions.specs.Into.{beginIn, ownRecordIn, includeIn, scopeIn, namespaceIn, typedNameIn, constIn, typedefIn, enumIn, structureIn, extendsIn, serviceHeadIn, serviceIn, definitionIn};
-use parse_fields::NESTING;
 use parse_fields::annotations;
 use parse_fields::fields;
 use parse_members::enums;
 use parse_members::functions;
 use parse_values::types;
 use parse_values::values;
+use parser::NESTING;
 use steps::state::Parsed;
 use steps::state::State;
 use steps::table;

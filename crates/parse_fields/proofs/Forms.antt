@@ -1,4 +1,4 @@
--- What each reader of names, annotations and fields is, as its first call and what follows it. Assumes nothing.
+-- What each reader of names, annotations and fields is, as its first call and what follows it.
 use mathlib.Core.Path.{_≡_, refl}
 use mathlib.Core.Bool.{cond}
 use mathlib.Core.List.{List}
@@ -7,7 +7,8 @@ use lib.Dec.{eqb}
 use Rattle.steps.specs.declared.state.State.{State}
 use Rattle.steps.specs.Into.{isSeparator, loopIn, closesAt, takeIn, M, _⨟_, advanced, after, done, expectIn, isIdAt, leafIn, nodeIn, opened, ownIn, refused, startAt, sum}
 use Rattle.parse_values.specs.Into.{typeIn, valueIn}
-use Rattle.parse_fields.specs.Into.{skipMemberIn, nesting, annotationIn, annotationListIn, annotationsIn, defaultIn, fieldHeadIn, fieldIdIn, fieldIn, fieldNameIn, fieldTailIn, fieldsIn, isFieldName, membersIn, nameIn, oneSeparatorIn, requiredOf, skipRequired, tokenIn}
+use Rattle.parser.specs.Definitions.{nesting}
+use Rattle.parse_fields.specs.Into.{skipMemberIn, annotationIn, annotationListIn, annotationsIn, defaultIn, fieldHeadIn, fieldIdIn, fieldIn, fieldNameIn, fieldTailIn, fieldsIn, isFieldName, membersIn, nameIn, oneSeparatorIn, requiredOf, skipRequired, tokenIn}
 
 pub token-is : (text : List ℕ) (w : ℕ) (e : ℕ) (k : ℕ) (b : ℕ) (p : ℕ) (st : State) (t u : List ℕ) → tokenIn text w e k b p st t u ≡
     (expectIn text w e ⨟ leafIn k b p) st t u

@@ -1,10 +1,11 @@
 -- What the readers of names, annotations and fields do to the state and to both tables: their part of parser/specs/Definitions, with records
 -- written as they are read. Contracts of this crate and of those above it cite it, and proofs/MeantFields shows that it means the definitions;
--- nothing else has to believe it. Assumes nothing: these are definitions.
+-- nothing else has to believe it.
 use mathlib.Core.Bool.{Bool, true, false, cond, _||_}
 use mathlib.Core.List.{List}
 use Prim.Native.Nat.{ℕ}
 use lib.Dec.{eqb, ltb, leb}
+use Rattle.parser.specs.Definitions.{nesting}
 use Rattle.steps.specs.declared.state.State.{State}
 use Rattle.steps.specs.Into.{M, after, _⨟_, sum, opened, leafIn, nodeIn, advanced, refused, startAt, takeIn, expectIn, isSeparator, skipIn, skipCommentsIn, ownIn, loopIn, closesAt, isIdAt, done}
 use Rattle.parse_values.specs.Into.{typeIn, valueIn}
@@ -59,9 +60,6 @@ isFieldName k = cond (ltb k 10) (isEarlyName k) (cond (leb k 14) true (cond (ltb
 
 unfoldable pub fieldNameIn : List ℕ → ℕ → ℕ → M
 fieldNameIn text b p st t u = cond (isFieldName (st .kind)) (leafIn 16 b p (advanced text st) t u) (refused 8 st)
-
-unfoldable pub nesting : ℕ
-nesting = 32
 
 unfoldable pub defaultIn : List ℕ → ℕ → ℕ → M
 defaultIn text b p st t u = cond (eqb (st .kind) 45) (valueIn text nesting b p (advanced text st) t u) (done st t u)

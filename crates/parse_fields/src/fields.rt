@@ -2,10 +2,10 @@
 ghost use mathlib.Core.Path.{_≡_};
 ghost use Rattle.steps.specs.Into.{Lent, Reads, Quiet};
 ghost use Rattle.parse_fields.specs.Into.{fieldIdIn, requiredOf, skipRequired, isEarlyName, isFieldName, fieldNameIn, defaultIn, fieldHeadIn, fieldTailIn, fieldIn, fieldsIn};
-use crate::NESTING;
 use crate::annotations;
 use parse_values::types;
 use parse_values::values;
+use parser::NESTING;
 use steps::id;
 use steps::state::Parsed;
 use steps::state::State;

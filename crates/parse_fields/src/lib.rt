@@ -8,9 +8,6 @@ use steps::state::Parsed;
 use steps::state::State;
 use steps::table;
 
-// Containers inside one another.
-pub const NESTING: u32 = 32;
-
 // A token of one kind, as a node.
 pub fn parse_leaf(
     class: &[u8; 256],

@@ -27,7 +27,7 @@ use Rattle.steps.proofs.Bytes.{
   comments-rests,
 }
 use Rattle.parse_values.proofs.Bytes.{type-falls}
-use Rattle.parse_fields.specs.Into.{nesting}
+use Rattle.parser.specs.Definitions.{nesting}
 use Rattle.parse_fields.proofs.Bytes.{token-falls, name-falls, annotations-rests, members-falls, fields-falls}
 use Rattle.parse_members.specs.Into.{
   throwsIn,

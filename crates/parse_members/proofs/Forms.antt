@@ -1,4 +1,4 @@
--- What each reader of functions and enum members is, as its first call and what follows it. Assumes nothing.
+-- What each reader of functions and enum members is, as its first call and what follows it.
 use mathlib.Core.Path.{_≡_, refl}
 use mathlib.Core.Bool.{true, cond}
 use mathlib.Core.List.{List}
@@ -7,7 +7,8 @@ use lib.Dec.{eqb}
 use Rattle.steps.specs.declared.state.State.{State}
 use Rattle.steps.specs.Into.{_⨟_, advanced, after, done, leafIn, nodeIn, opened, ownIn, skipCommentsIn, sum}
 use Rattle.parse_values.specs.Into.{typeIn}
-use Rattle.parse_fields.specs.Into.{nesting, annotationsIn, fieldsIn, membersIn, nameIn, tokenIn}
+use Rattle.parser.specs.Definitions.{nesting}
+use Rattle.parse_fields.specs.Into.{annotationsIn, fieldsIn, membersIn, nameIn, tokenIn}
 use Rattle.parse_members.specs.Into.{enumMembersIn, flagIf, functionHeadIn, functionIn, functionTailIn, functionsIn, initializerIn, memberIn, returnTypeIn, skipOneway, throwsIn}
 
 pub throws-is : (text : List ℕ) (b : ℕ) (p : ℕ) (st : State) (t u : List ℕ) → throwsIn text b p st t u ≡

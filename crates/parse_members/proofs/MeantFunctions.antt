@@ -3,7 +3,6 @@
 --     function-m          a function
 --     member-m            an enum member
 --     either-m            a token of one of two kinds
--- Assumes nothing.
 use mathlib.Core.Path.{_≡_, refl, sym, ap, _∙_}
 use mathlib.Core.Bool.{Bool, true, false, cond, _||_, false≢true}
 use mathlib.Core.List.{List, [], _∷_}
@@ -53,7 +52,6 @@ use Rattle.parser.specs.Definitions.{
   parseInitializer,
   parseEnumMember,
 }
-use Rattle.parse_fields.specs.Into as I
 use Rattle.steps.specs.Into.{done, after, _⨟_, sum, opened, owns, nodeIn}
 use Rattle.parse_fields.specs.Into.{tokenIn, nameIn, fieldIn, fieldsIn}
 use Rattle.parse_members.specs.Into.{throwsIn, returnTypeIn, flagIf, skipOneway, functionHeadIn, functionTailIn, functionIn, initializerIn, memberIn}
@@ -173,7 +171,7 @@ module _ (text : List ℕ) (short : length text ≤ 65536) where
 
   return-type-m : {i b p : ℕ} {fr : Frame} {f : Forest} {st : State} {t u : List ℕ} {s : St} → At text i b p fr f st t u s
       → Meant (λ a. At text i b p fr (f ⊕ single (typeTree a))) (returnTypeIn text b p st t u) (parseReturnType s)
-  unfolding returnTypeIn parseReturnType parseType I.nesting D.nesting code after
+  unfolding returnTypeIn parseReturnType parseType D.nesting code after
   return-type-m {f = f} {s = s} h =
       one-m text short T.Void _ _ s h
       (λ e. last-m (leaf-m 18 (step-m text short (T.Void ∷ []) s e h)) λ tok st₁ t₁ u₁ s₁ h₁.

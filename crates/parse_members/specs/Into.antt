@@ -1,6 +1,6 @@
 -- What the readers of functions and enum members do to the state and to both tables: their part of parser/specs/Definitions, with records
 -- written as they are read. Contracts of this crate and of those above it cite it, and proofs/MeantFunctions shows that it means the definitions;
--- nothing else has to believe it. Assumes nothing: these are definitions.
+-- nothing else has to believe it.
 use mathlib.Core.Bool.{true, cond}
 use mathlib.Core.List.{List}
 use Prim.Native.Nat.{ℕ}
@@ -8,7 +8,8 @@ use lib.Dec.{eqb}
 use Rattle.steps.specs.declared.state.State.{State}
 use Rattle.steps.specs.Into.{M, after, _⨟_, sum, opened, leafIn, nodeIn, advanced, skipCommentsIn, ownIn, done}
 use Rattle.parse_values.specs.Into.{typeIn}
-use Rattle.parse_fields.specs.Into.{tokenIn, nameIn, annotationsIn, nesting, membersIn, fieldsIn}
+use Rattle.parser.specs.Definitions.{nesting}
+use Rattle.parse_fields.specs.Into.{tokenIn, nameIn, annotationsIn, membersIn, fieldsIn}
 
 -- ---- functions
 

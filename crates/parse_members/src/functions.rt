@@ -2,10 +2,10 @@
 ghost use mathlib.Core.Path.{_≡_};
 ghost use Rattle.steps.specs.Into.{Lent, Reads, Quiet};
 ghost use Rattle.parse_members.specs.Into.{throwsIn, returnTypeIn, flagIf, skipOneway, functionHeadIn, functionTailIn, functionIn, functionsIn};
-use parse_fields::NESTING;
 use parse_fields::annotations;
 use parse_fields::fields;
 use parse_values::types;
+use parser::NESTING;
 use steps::state::Parsed;
 use steps::state::State;
 use steps::table;

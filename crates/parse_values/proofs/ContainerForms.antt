@@ -1,4 +1,4 @@
--- What each reader of types and values is, as its first call and what follows it; its tests are those of the code. Assumes nothing.
+-- What each reader of types and values is, as its first call and what follows it; its tests are those of the code.
 use mathlib.Core.Path.{_≡_, refl, sym, ap, _∙_}
 use mathlib.Core.Bool.{Bool, false, cond}
 use mathlib.Core.List.{List}

@@ -1,7 +1,6 @@
 -- The code's tests of a kind's number are the definitions' lists of kinds, by tests over all 52.
 --     opener-test                             the openers of a value
 --     leaf-type, container-type, leaf-value   the record of a kind; ..-none: there is one exactly for the kinds of the list
--- Assumes nothing.
 use mathlib.Core.Path.{_≡_, refl}
 use mathlib.Core.Bool.{true, not, cond}
 use lib.Dec.{eqb}

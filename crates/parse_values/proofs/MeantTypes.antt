@@ -1,6 +1,5 @@
 -- The code (its model, specs/Into) reads types as the definitions do.
 --     type-m              a type, with so many containers left
--- Assumes nothing.
 use mathlib.Core.Path.{_≡_, refl, ap, _∙_}
 use mathlib.Core.Bool.{Bool, true, false, cond}
 use mathlib.Core.List.{List, []}

@@ -1,6 +1,5 @@
 -- What the readers of types and values do to the state and to both tables: parser/specs/Types and Values, with records written as they are read. Contracts of
 -- this crate and of those above it cite it, and proofs/MeantTypes and MeantValues show that it means the definitions; nothing else has to believe it.
--- Assumes nothing: these are definitions.
 use mathlib.Core.Bool.{Bool, true, false, cond, _||_}
 use mathlib.Core.List.{List}
 use Prim.Native.Nat.{ℕ, zero, suc}

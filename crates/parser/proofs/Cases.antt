@@ -1,4 +1,4 @@
--- The table of edges holds, by computation. Assumes nothing.
+-- The table of edges holds, by computation.
 use mathlib.Core.Path.{refl}
 use Rattle.token.specs.Code.{code, is, among}
 use Rattle.token.specs.Regex.{bytes, ranges, within, nullable, isNothing, then, or, deriv}

@@ -1,4 +1,4 @@
--- Where the last token does not end at offset 1, places decide nothing of a document either. Assumes nothing.
+-- Where the last token does not end at offset 1, places decide nothing of a document either.
 use mathlib.Core.Path.{_≡_, refl, ap, sym, _∙_}
 use mathlib.Core.Bool.{Bool, true, false}
 use mathlib.Core.List.{List, [], _∷_}

@@ -2,7 +2,6 @@
 --     either              of two tests one holds
 --     agree, alike        two functions of a kind that give the same at each of them
 --     Tests               a test of a number that says whether a kind is among these, and fails where no token is ahead
--- Assumes nothing.
 use mathlib.Core.Path.{_≡_, refl, sym, _∙_}
 use mathlib.Core.Bool.{Bool, true, false, not, cond, _||_, _&&_, or-false, false≢true}
 use mathlib.Core.List.{List, [], _∷_}

@@ -2,7 +2,6 @@
 --     document-each   what holds of each token holds of each lexeme of every definition that is read; the kinds of container keywords; the nesting
 --     tokens-stand    each token of a text lies inside it and has the bytes of its place
 --     tokens-ruled    its kind is that of the first rule that its bytes have
--- Assumes nothing.
 use mathlib.Core.Path.{_≡_, refl}
 use mathlib.Core.Bool.{Bool, true, false, cond}
 use mathlib.Core.List.{List, [], _∷_}

@@ -1,4 +1,4 @@
--- One turn of the loop that every list is read by. Assumes nothing.
+-- One turn of the loop that every list is read by.
 use mathlib.Core.Path.{_≡_}
 use mathlib.Core.Bool.{Bool, true, false}
 use Prim.Native.Nat.{ℕ, suc}

@@ -4,7 +4,6 @@
 --     notes-bound     at most as many comments as tokens
 --     tokens-bound    at most as many tokens as bytes
 --     read-bounds     the same for a text that is read, and its bytes: so at most 131072 node records and 65536 comments
--- Assumes nothing.
 use mathlib.Core.Path.{_≡_, refl}
 use mathlib.Core.Bool.{Bool, true, false, cond}
 use mathlib.Core.List.{List, [], _∷_, _++_}

@@ -1,5 +1,5 @@
 -- Places decide nothing: from the bare tokens each reader reads the bare tree.
--- `over` looks at the last token's offset, so the laws end at parseDefinition and at the document read with `ended` in its stead; Ended has the rest. Assumes nothing.
+-- `over` looks at the last token's offset, so the laws end at parseDefinition and at the document read with `ended` in its stead; Ended has the rest.
 use mathlib.Core.Path.{_≡_, refl, ap}
 use mathlib.Core.Bool.{Bool, true, false, cond}
 use mathlib.Core.List.{List, [], _∷_, _++_}

@@ -1,4 +1,4 @@
--- Whatever is read from good tokens is well formed. Good k w: what is known of each token; Last l: what is known of the last token's place. Assumes nothing.
+-- Whatever is read from good tokens is well formed. Good k w: what is known of each token; Last l: what is known of the last token's place.
 use mathlib.Core.Path.{_≡_, refl}
 use mathlib.Core.Bool.{Bool, true, false, cond}
 use mathlib.Core.List.{List, [], _∷_}

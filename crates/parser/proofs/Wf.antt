@@ -1,4 +1,4 @@
--- What every reading gives: the kinds of its lexemes, the nesting, the counts. Good k w: what is known of each token, its kind k and its bytes w. Assumes nothing.
+-- What every reading gives: the kinds of its lexemes, the nesting, the counts. Good k w: what is known of each token, its kind k and its bytes w.
 use mathlib.Core.Path.{_≡_}
 use mathlib.Core.Bool.{Bool, true}
 use mathlib.Core.Option.{Option, some, none}

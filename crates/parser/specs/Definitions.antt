@@ -1,4 +1,4 @@
--- Definitions: rico's parser/definitions.rs, function by function. Assumes nothing: these are definitions.
+-- Definitions: rico's parser/definitions.rs, function by function.
 use mathlib.Core.Bool.{Bool, true, false, cond, not, _&&_}
 use mathlib.Core.List.{List, [], _∷_}
 use mathlib.Core.Option.{Option, some, none}

@@ -1,4 +1,4 @@
--- The state of the parser, its answers, and the steps that every reader is made of: rico's parser/token.rs and parser/location.rs. Assumes nothing.
+-- The state of the parser, its answers, and the steps that every reader is made of: rico's parser/token.rs and parser/location.rs.
 -- The first of the tokens left is the one in hand where rico has advanced to it, and the one that it peeks at where it has not.
 use mathlib.Core.Bool.{Bool, true, false, cond}
 use mathlib.Core.List.{List, [], _∷_, _++_}

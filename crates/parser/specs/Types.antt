@@ -1,4 +1,4 @@
--- Types: rico's parser/types.rs. Assumes nothing: these are definitions.
+-- Types: rico's parser/types.rs.
 use mathlib.Core.Bool.{Bool}
 use mathlib.Core.List.{List, [], _∷_}
 use Prim.Native.Nat.{ℕ, suc, zero}

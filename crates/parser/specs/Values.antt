@@ -1,4 +1,4 @@
--- Constant values: rico's parser/values.rs. Assumes nothing: these are definitions.
+-- Constant values: rico's parser/values.rs.
 use mathlib.Core.Bool.{Bool}
 use mathlib.Core.List.{List, [], _∷_}
 use Prim.Native.Nat.{ℕ, suc, zero}

@@ -1,4 +1,4 @@
--- A walk goes lexeme by lexeme. Assumes nothing.
+-- A walk goes lexeme by lexeme.
 use mathlib.Core.Path.{_≡_, refl, sym, ap, _∙_}
 use mathlib.Core.Bool.{Bool, true, false}
 use mathlib.Core.List.{List, [], _∷_}

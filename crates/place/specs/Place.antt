@@ -1,4 +1,4 @@
--- The line and the column of an offset, in any text, by the lexer's line rule. Assumes nothing: these are definitions.
+-- The line and the column of an offset, in any text, by the lexer's line rule.
 use Prim.Native.Nat.{ℕ, zero, suc, _-_}
 use mathlib.Core.Bool.{cond}
 use mathlib.Core.List.{List, [], _∷_}

@@ -2,7 +2,6 @@
 --     rows-under, notes-under   the rows of a tree, before others
 --     written-means             the tables of an accepted reading are written as the print
 --     print-means               the whole, for any text, indent, tables and output
--- Assumes nothing.
 use mathlib.Core.Path.{_≡_, refl, sym, ap, _∙_}
 use mathlib.Core.Logic.{inl, ⊎-elim}
 use mathlib.Core.Bool.{Bool, true, false, cond}
@@ -29,8 +28,7 @@ use Rattle.steps.specs.Into.{wiped}
 use Rattle.parser.proofs.Lexemes.{Stands, tokens-stand, HasRule, tokens-ruled, EachDefinition, document-each}
 use Rattle.parser.proofs.Paid.{nodes-most, notes-most}
 use Rattle.writer.specs.Print.{bytesOf, pieces, printed}
-use Rattle.writer.specs.declared.Printed.the-variants.{Accepted, Refused}
-use Rattle.writer.specs.Write.{widest, outcomeAt, fittedOut, answer, written, printOf, Printing, said, told, printing}
+use Rattle.writer.specs.Write.{widest, outcomeAt, fittedOut, answer, written, printOf, Printing, printing}
 use Rattle.cursor.specs.Onto.{Reached}
 use Rattle.printer.specs.Onto.{opening, refusing, fits, ended, writing, byAnswer, byReading, all}
 use Rattle.write_fields.proofs.Ahead.{Rows, under, unders, ownedBefore, noted, noteds, Ahead, Fits, Over, Got, got, Job, At}
@@ -100,22 +98,26 @@ cleared-twice : (t : List ℕ) → cleared (cleared t) ≡ cleared t
 unfolding cleared
 cleared-twice t = cleared-same t (replicate (length t) 0) (length-replicate (length t) 0)
 
+-- an answer, both tables and the output
+abbrev made : Outcome (List ℕ) → List ℕ → List ℕ → List ℕ → Printing
+made a ns cs out = record { says = a; nodes = ns; comments = cs; output = out }
+
 refusing-same : (e p n : ℕ) (t u o t′ u′ o′ : List ℕ) → length t′ ≡ length t → length u′ ≡ length u → length o′ ≡ length o →
-    refusing e p n t′ u′ o′ ≡ told (Refused e p n) (cleared t) (cleared u) (cleared o)
+    refusing e p n t′ u′ o′ ≡ made (refused e p n) (cleared t) (cleared u) (cleared o)
 unfolding refusing
 refusing-same e p n t u o t′ u′ o′ a b c = rw (cleared-same t t′ a, cleared-same u u′ b, cleared-same o o′ c)
 
 -- ---- the print in the output, or too long for it
 
 fits-in : (n c len : ℕ) (t u o o′ w : List ℕ) → len ≡ length w → length w ≤ length o → o′ ≡ w ++ drop (length w) o →
-    fits n c len t u o′ ≡ told (Accepted n c (length w)) t u (w ++ replicate (length o - length w) 0)
+    fits n c len t u o′ ≡ made (accepted (n ∷ c ∷ length w ∷ [])) t u (w ++ replicate (length o - length w) 0)
 unfolding fits wiped
 fits-in n c len t u o o′ w e h f =
     let l : length (w ++ drop (length w) o) ≡ length o = length-append w (drop (length w) o) ∙ omega (arith, length-drop (length w) o, h) in
     rw (e, f, l, le-ltb (length o) (length w) h, take-append-seam w (drop (length w) o))
 
 fits-over : (n c len : ℕ) (t u o o′ t′ u′ : List ℕ) → length o < len → length o′ ≡ length o → length t ≡ length t′ → length u ≡ length u′ →
-    fits n c len t u o′ ≡ told (Refused 27 0 0) (cleared t′) (cleared u′) (cleared o)
+    fits n c len t u o′ ≡ made (refused 27 0 0) (cleared t′) (cleared u′) (cleared o)
 unfolding fits
 fits-over n c len t u o o′ t′ u′ h e a b = rw (lt-ltb (length o′) len (omega (arith, h, e))) (refusing-same 27 0 0 t′ u′ o t u o′ a b e)
 
@@ -170,8 +172,8 @@ module _ (text : List ℕ) (indent : ℕ) (t u o : List ℕ) (ds : List Definiti
   -- the answer, by whether the print fits
   abbrev result : Printing
   result =
-      cond (ltb (length o) (length (printed indent ds))) (told (Refused 27 0 0) (cleared t) (cleared u) (cleared o))
-      (told (Accepted (length (nodeRows ds)) (length (notes ds)) (length (printed indent ds))) (filled (nodeRows ds) t) (filled (notes ds) u)
+      cond (ltb (length o) (length (printed indent ds))) (made (refused 27 0 0) (cleared t) (cleared u) (cleared o))
+      (made (accepted (length (nodeRows ds) ∷ length (notes ds) ∷ length (printed indent ds) ∷ [])) (filled (nodeRows ds) t) (filled (notes ds) u)
       (printed indent ds ++ replicate (length o - length (printed indent ds)) 0))
 
   inside : (n : ℕ) (o′ : List ℕ) → Fits o (printed indent ds) [] n o′ →
@@ -215,22 +217,22 @@ module _ (text : List ℕ) (indent : ℕ) (t u o : List ℕ) where
   abbrev given : Outcome (List Definition) → Printing
   given x =
       let a = answer indent x t u o in
-      record { says = a; nodes = left a (rowsBy nodeRows x) t; comments = left a (rowsBy notes x) u; output = written a (printOf indent x) o }
+      made a (left a (rowsBy nodeRows x) t) (left a (rowsBy notes x) u) (written a (printOf indent x) o)
 
   by-length : (b : Bool) (n c : ℕ) (rs ss : Rows) (w : List ℕ) →
-      cond b (told (Refused 27 0 0) (cleared t) (cleared u) (cleared o)) (told (Accepted n c (length w)) (filled rs t) (filled ss u) (w ++ replicate (length o - length w) 0))
-      ≡ (let a = cond b (refused 27 0 0) (accepted (n ∷ c ∷ length w ∷ [])) in record { says = a; nodes = left a rs t; comments = left a ss u; output = written a w o })
-  unfolding left written said
+      cond b (made (refused 27 0 0) (cleared t) (cleared u) (cleared o)) (made (accepted (n ∷ c ∷ length w ∷ [])) (filled rs t) (filled ss u) (w ++ replicate (length o - length w) 0))
+      ≡ (let a = cond b (refused 27 0 0) (accepted (n ∷ c ∷ length w ∷ [])) in made a (left a rs t) (left a ss u) (written a w o))
+  unfolding left written
   by-length true n c rs ss w = refl
   by-length false n c rs ss w = refl
 
-  refused-given : (e p n : ℕ) → refusing e p n (cleared t) (cleared u) o ≡ told (Refused e p n) (cleared t) (cleared u) (cleared o)
+  refused-given : (e p n : ℕ) → refusing e p n (cleared t) (cleared u) o ≡ made (refused e p n) (cleared t) (cleared u) (cleared o)
   unfolding refusing
   refused-given e p n = rw (cleared-twice t, cleared-twice u)
 
   read-given : (ds : List Definition) → outcome text ≡ accepted ds → All (EachDefinition (Good text)) ds →
       let a = R.fitted ds t u in byAnswer a text indent (left a (nodeRows ds) t) (left a (notes ds) u) o ≡ given (accepted ds)
-  unfolding R.fitted byAnswer answer fittedOut left written rowsBy printOf said
+  unfolding R.fitted byAnswer answer fittedOut left written rowsBy printOf
   read-given ds found good = go (ltb (room t) (length (nodeRows ds))) refl (ltb (room u) (length (notes ds))) refl
     where
       go : (a : Bool) → ltb (room t) (length (nodeRows ds)) ≡ a → (b : Bool) → ltb (room u) (length (notes ds)) ≡ b →
@@ -243,12 +245,12 @@ module _ (text : List ℕ) (indent : ℕ) (t u o : List ℕ) where
           ∙ by-length (ltb (length o) (length (printed indent ds))) (length (nodeRows ds)) (length (notes ds)) (nodeRows ds) (notes ds) (printed indent ds))
 
   outcome-given : (x : Outcome (List Definition)) → outcome text ≡ x → byReading (reading text t u) text indent o ≡ given x
-  unfolding reading byReading R.answer byAnswer rowsBy answer left written said
+  unfolding reading byReading R.answer byAnswer rowsBy answer left written
   outcome-given (accepted ds) e = rw e (read-given ds e (good-outcome text ds e))
   outcome-given (refused n p l) e = rw e (refused-given n p l)
 
   pub print-means : all text indent t u o ≡ printing text indent t u o
-  unfolding all printing limit widest outcomeAt answer left written refusing said
+  unfolding all printing limit widest outcomeAt answer left written refusing
   print-means = go (ltb 65536 (length text)) refl (ltb 8 indent) refl
     where
       go : (a : Bool) → ltb 65536 (length text) ≡ a → (b : Bool) → ltb 8 indent ≡ b → all text indent t u o ≡ printing text indent t u o

@@ -2,7 +2,6 @@
 --     written-is                   what the writing of the document left, if it fits
 --     all-long, all-wide           20 and 26
 --     all-refused, all-accepted    the reading refused the text, and the reading accepted it
--- Assumes nothing.
 use mathlib.Core.Path.{_≡_, sym, ap, _∙_}
 use mathlib.Core.List.{List}
 use Prim.Native.Nat.{ℕ, _≤_, _<_}

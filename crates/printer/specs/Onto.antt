@@ -1,7 +1,7 @@
 -- What the printer does, of a whole text. Contracts inside this crate cite it, and proofs/Meant shows that it means writer/specs/Write; nothing outside the crate has to
 -- believe it.
 use mathlib.Core.Bool.{cond}
-use mathlib.Core.List.{List}
+use mathlib.Core.List.{List, [], _∷_}
 use Prim.Native.Nat.{ℕ}
 use lib.Dec.{ltb}
 use lib.ListN.{length, getD}
@@ -9,9 +9,8 @@ use Rattle.lexer.specs.Outcome.{Outcome, accepted, refused}
 use Rattle.ast.specs.Records.{cleared}
 use Rattle.parser.specs.Read.{Reading, reading}
 use Rattle.steps.specs.Into.{wiped}
-use Rattle.writer.specs.declared.Printed.the-variants.{Accepted, Refused}
 use Rattle.lexer.specs.Check.{limit}
-use Rattle.writer.specs.Write.{widest, Printing, told}
+use Rattle.writer.specs.Write.{widest, Printing}
 use Rattle.cursor.specs.declared.Cursor.{Cursor}
 use Rattle.cursor.specs.Onto.{Reached, reached}
 use Rattle.write_definitions.specs.Onto.{documentOut}
@@ -22,11 +21,12 @@ opening = record { node = 0; comment = 0; length = 0 }
 -- ---- the whole
 
 unfoldable pub refusing : ℕ → ℕ → ℕ → List ℕ → List ℕ → List ℕ → Printing
-refusing e p n t u o = told (Refused e p n) (cleared t) (cleared u) (cleared o)
+refusing e p n t u o = record { says = refused e p n; nodes = cleared t; comments = cleared u; output = cleared o }
 
 -- what was printed, if the output held it
 unfoldable pub fits : ℕ → ℕ → ℕ → List ℕ → List ℕ → List ℕ → Printing
-fits n c len t u o = cond (ltb (length o) len) (refusing 27 0 0 t u o) (told (Accepted n c len) t u (wiped len o))
+fits n c len t u o =
+    cond (ltb (length o) len) (refusing 27 0 0 t u o) (record { says = accepted (n ∷ c ∷ len ∷ []); nodes = t; comments = u; output = wiped len o })
 
 unfoldable pub ended : Reached → ℕ → ℕ → List ℕ → List ℕ → Printing
 ended (reached p o) n c t u = fits n c (p .length) t u o

@@ -1,7 +1,6 @@
 -- What the code (its model, specs/Into) does to the state and to both tables means the definitions, for every text that passed 20 and 21 and any two tables.
 --     document-m          the document: its definitions' records, in both tables
 --     parsing-means       the whole: the answer and both tables afterwards
--- Assumes nothing.
 use mathlib.Core.Path.{_≡_, refl, sym, ap, _∙_}
 use mathlib.Core.Bool.{Bool, true, false, cond}
 use mathlib.Core.List.{List, [], _∷_, _++_, append-assoc, append-nil}
@@ -41,7 +40,7 @@ use Rattle.ast.proofs.Counts.{
 use Rattle.steps.specs.declared.state.State.{State}
 use Rattle.parser.specs.Steps.{St, pos, Res, test, fail}
 use Rattle.parser.specs.Definitions.{parseDefinition, over, documentEnd, parseDocument}
-use Rattle.parser.specs.Read.{parsed, endRule, answered, outcomeBy, outcome, fitted, answer, left, rowsBy, Reading, reading, said}
+use Rattle.parser.specs.Read.{parsed, endRule, answered, outcomeBy, outcome, fitted, answer, left, rowsBy, Reading, reading}
 use Rattle.steps.specs.Into.{Out, done, stop, refused, closesAt, restAt, wiped}
 use Rattle.reader.specs.Into.{inRest, restIn, overIn, betweenIn, documentIn, beginning, refusing, ended, refusingAt, fits, judged, unscanned, settled, parsing}
 use Rattle.reader.proofs.Whole.{read-unknown}
@@ -225,7 +224,7 @@ module _ (text : List ℕ) (short : length text ≤ 65536) where
 
     fits-by : (x y : Bool) → ltb (room t) (length (nodeRows ds)) ≡ x → ltb (room u) (length (notes ds)) ≡ y
         → fits st t′ u′ ≡ given (fitted ds t u) (left (fitted ds t u) (nodeRows ds) t) (left (fitted ds t u) (notes ds) u)
-    unfolding fits fitted left refusing said
+    unfolding fits fitted left refusing
     fits-by true y e d =
         let z : ltb (room t′) (st .next) ≡ true = rw (room-same t t′ length-nodes, count-nodes) e in
         rw (z, e) (given-same refl (cleared-same t t′ length-nodes) (cleared-same u u′ length-notes))
@@ -246,7 +245,7 @@ module _ (text : List ℕ) (short : length text ≤ 65536) where
   judged-means : {o : Out} {r : Res (List Definition)} {i : ℕ} (t u : List ℕ) → Meant (λ ds. At text i 0 noParent (lent t u) (forest ds)) o r
       → judged o (length text) t u ≡ given (answer (answered r text) t u) (left (answer (answered r text) t u) (rowsBy nodeRows (answered r text)) t)
       (left (answer (answered r text) t u) (rowsBy notes (answered r text)) u)
-  unfolding judged answered answer rowsBy refusingAt refusing ended endRule left said
+  unfolding judged answered answer rowsBy refusingAt refusing ended endRule left
   judged-means t u (went {a = ds} h) = fits-by t u ds h (ltb (room t) (length (nodeRows ds))) (ltb (room u) (length (notes ds))) refl refl
   judged-means t u halted = refl
 

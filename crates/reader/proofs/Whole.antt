@@ -5,13 +5,12 @@
 --     parse-judged          what the grammar finds
 --     read-long, read-ill, read-unknown   20, 21 and 22
 --     ill-small, unknown-small            their places are small
--- Assumes nothing.
-use mathlib.Core.Path.{_≡_, refl, sym, ap, ap₂, _∙_}
+use mathlib.Core.Path.{_≡_, refl, sym, ap, _∙_}
 use mathlib.Core.List.{List, [], _∷_, _++_, append-nil}
 use mathlib.Core.Option.{Option, some, none}
 use Prim.Native.Nat.{ℕ, zero, suc, _+_, _-_, _≤_}
 use native.Mathlib.Omega.{arith}
-use lib.ListN.{length, take, drop, replicate, length-drop, length-take, drop-of-length-le}
+use lib.ListN.{length, take, drop, length-drop, length-take, drop-of-length-le}
 use borrow.Rule.Slice.PartMut.{putMid}
 use Rattle.lexer.specs.Outcome.{refused}
 use Rattle.token.specs.Scan.{scan}
@@ -25,11 +24,10 @@ use Rattle.utf8.specs.declared.Found.the-variants.{At, Nowhere}
 use Rattle.scan.proofs.Part.{part}
 use Rattle.utf8.proofs.FoundLaws.{found-at, found-none}
 use Rattle.ast.specs.Records.{cleared}
-use Rattle.parser.specs.declared.Answer.the-variants as A
 use Rattle.steps.specs.declared.state.State.{State}
 use Rattle.steps.specs.declared.state.Parsed.{Parsed}
 use Rattle.steps.specs.declared.state.Parsed.the-variants.{On, Refused}
-use Rattle.parser.specs.Read.{Reading, outcomeBy, outcome, answer, left, reading, said, told}
+use Rattle.parser.specs.Read.{Reading, outcomeBy, outcome, answer, left, reading}
 use Rattle.steps.specs.Into.{Out, done, stop, shows, restAt, loopIn, closesAt}
 use Rattle.parse_definitions.specs.Into.{definitionIn}
 use Rattle.reader.specs.Into.{inRest, restIn, betweenIn, overIn, documentIn, beginning, refusing, refusingAt, judged, unscanned, settled, parsing}
@@ -59,7 +57,7 @@ rest-is text st at t t₁ u u′ a h e =
 
 refusing-same : (e p n : ℕ) (t u t′ u′ : List ℕ) → length t′ ≡ length t → length u′ ≡ length u → refusing e p n t′ u′ ≡ refusing e p n t u
 unfolding refusing cleared
-refusing-same e p n t u t′ u′ h g = ap₂ (λ (x y : ℕ). told (A.Refused e p n) (replicate x 0) (replicate y 0)) h g
+refusing-same e p n t u t′ u′ h g = rw (h, g)
 
 judged-same : (o : Out) (len : ℕ) (t u t₁ u₁ : List ℕ) → length t₁ ≡ length t → length u₁ ≡ length u → judged o len t₁ u₁ ≡ judged o len t u
 unfolding judged refusingAt
@@ -88,15 +86,15 @@ module _ (text t u t₁ u₁ : List ℕ) (st : State) (a : Parsed) (from : ℕ) 
 -- 20, 21, 22
 module _ (text t u : List ℕ) where
   pub read-long : checked text ≡ refused 20 0 0 → refusing 20 0 0 t u ≡ reading text t u
-  unfolding reading outcome outcomeBy answer left refusing said
+  unfolding reading outcome outcomeBy answer left refusing
   read-long e = rw e refl
 
   pub read-ill : (p : ℕ) → checked text ≡ refused 21 p 0 → refusing 21 p 0 t u ≡ reading text t u
-  unfolding reading outcome outcomeBy answer left refusing said
+  unfolding reading outcome outcomeBy answer left refusing
   read-ill p e = rw e refl
 
   pub read-unknown : (p : ℕ) → checked text ≡ refused 22 p 0 → refusing 22 p 0 t u ≡ reading text t u
-  unfolding reading outcome outcomeBy answer left refusing said
+  unfolding reading outcome outcomeBy answer left refusing
   read-unknown p e = rw e refl
 
 -- ---- the places of 21 and 22 lie in the text

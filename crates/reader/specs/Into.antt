@@ -1,17 +1,17 @@
 -- What the code does to the state and to both tables, of a document and of a whole text. Contracts inside this crate cite it, and proofs/Meant shows that it
--- means parser/specs/Read; nothing outside the crate has to believe it. Assumes nothing: these are definitions.
+-- means parser/specs/Read; nothing outside the crate has to believe it.
 use mathlib.Core.Bool.{true, false, cond}
-use mathlib.Core.List.{List, _++_}
+use mathlib.Core.List.{List, [], _∷_, _++_}
 use mathlib.Core.Option.{Option, some, none}
 use Prim.Native.Nat.{ℕ, _*_, _-_}
 use lib.Dec.{eqb, ltb}
 use lib.ListN.{length, take, drop}
 use Rattle.lexer.specs.declared.location.LOC.{LOC}
+use Rattle.lexer.specs.Outcome as O
 use Rattle.lexer.specs.Location.{between, opening}
 use Rattle.lexer.specs.Cuts.{cuts, unrecognized}
 use Rattle.ast.specs.Records.{width, room, cleared}
-use Rattle.parser.specs.Read.{Reading, told}
-use Rattle.parser.specs.declared.Answer.the-variants as A
+use Rattle.parser.specs.Read.{Reading}
 use Rattle.steps.specs.declared.state.State.{State}
 use Rattle.steps.specs.Into.{Out, M, _⨟_, restAt, wiped, advanced, refused, skipIn, skipCommentsIn, loopIn, closesAt, done, stop}
 use Rattle.parse_definitions.specs.Into.{definitionIn}
@@ -43,7 +43,7 @@ beginning text =
 -- ---- the whole
 
 unfoldable pub refusing : ℕ → ℕ → ℕ → List ℕ → List ℕ → Reading
-refusing e p n t u = told (A.Refused e p n) (cleared t) (cleared u)
+refusing e p n t u = record { says = O.refused e p n; nodes = cleared t; comments = cleared u }
 
 unfoldable pub ended : ℕ → ℕ → ℕ → ℕ
 ended e i len = cond (eqb e 3) (cond (eqb i len) 3 1) e
@@ -56,7 +56,7 @@ unfoldable pub fits : State → List ℕ → List ℕ → Reading
 fits st t u =
     cond (ltb (room t) (st .next)) (refusing 24 0 0 t u)
     (cond (ltb (room u) (st .owned)) (refusing 25 0 0 t u)
-    (told (A.Accepted (st .next) (st .owned)) (wiped (st .next * width) t) (wiped (st .owned * width) u)))
+    (record { says = O.accepted (st .next ∷ st .owned ∷ []); nodes = wiped (st .next * width) t; comments = wiped (st .owned * width) u }))
 
 unfoldable pub judged : Out → ℕ → List ℕ → List ℕ → Reading
 judged (done st t′ u′) len t u = fits st t′ u′

@@ -1,4 +1,4 @@
--- A text that was read lies inside the list. Assumes nothing: these are definitions.
+-- A text that was read lies inside the list.
 use Prim.Native.Nat.{ℕ, _≤_}
 use Rattle.replay_tokens.specs.declared.Text.{Text}
 use Rattle.replay_tokens.specs.declared.Read.{Read}

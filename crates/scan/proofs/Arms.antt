@@ -1,4 +1,4 @@
--- What the last arm of a `match` on a number stands for: one computed test of all numbers that no arm names. Assumes nothing.
+-- What the last arm of a `match` on a number stands for: one computed test of all numbers that no arm names.
 use mathlib.Core.Path.{_≡_, refl}
 use mathlib.Core.Bool.{Bool, true, false, cond, _||_}
 use mathlib.Core.List.{List, [], _∷_}

@@ -25,7 +25,6 @@ use Rattle.token.proofs.Reach.{reach-start}
 use Rattle.token.proofs.Classes.{class-below}
 use Rattle.token.proofs.Words.{scan-plain}
 use Rattle.token.proofs.Trie.{no-word-first}
-
 use Rattle.scan.proofs.ScanLaws.{first-letter, first-blank}
 use Rattle.scan.proofs.MarkLaws.{starters, mark-done}
 

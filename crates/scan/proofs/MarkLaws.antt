@@ -1,4 +1,4 @@
--- The tokens of one byte. Assumes nothing.
+-- The tokens of one byte.
 use mathlib.Core.Path.{_≡_, _∙_}
 use mathlib.Core.Bool.{Bool, true, false, cond}
 use mathlib.Core.List.{List, [], _∷_}

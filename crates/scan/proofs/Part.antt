@@ -1,4 +1,4 @@
--- A part of a list that goes on to its end is what is left behind an offset. Assumes nothing.
+-- A part of a list that goes on to its end is what is left behind an offset.
 use mathlib.Core.Path.{_≡_}
 use mathlib.Core.List.{List}
 use Prim.Native.Nat.{ℕ, _-_}

@@ -1,4 +1,4 @@
--- A run of bytes, one at a time. Assumes nothing.
+-- A run of bytes, one at a time.
 use mathlib.Core.Path.{_≡_, ap, _∙_}
 use mathlib.Core.Bool.{cond, _&&_}
 use mathlib.Core.List.{List}

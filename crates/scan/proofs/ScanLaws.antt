@@ -1,4 +1,4 @@
--- What each branch of src/scan.rt finds, from where its scan stands. Assumes nothing.
+-- What each branch of src/lib.rt finds, from where its scan stands.
 use mathlib.Core.Path.{_≡_, refl, _∙_, subst}
 use mathlib.Core.Logic.{⊎-elim}
 use mathlib.Core.Bool.{Bool, true, false}

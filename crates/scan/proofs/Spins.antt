@@ -1,4 +1,4 @@
--- The states that a run of bytes leaves as they are. Assumes nothing.
+-- The states that a run of bytes leaves as they are.
 use mathlib.Core.Path.{_≡_}
 use mathlib.Core.Logic.{inl, inr}
 use mathlib.Core.Bool.{Bool, true, false}

@@ -1,7 +1,6 @@
 -- The bytes before one byte, one at a time; and where a class holds that byte alone, they are the bytes before the class.
 --     line-end      before the end of the line
 --     star-next     before the next star
--- Assumes nothing.
 use mathlib.Core.Path.{_≡_, refl, ap, _∙_}
 use mathlib.Core.Bool.{Bool, cond, _&&_, Bool·beq}
 use mathlib.Core.List.{List, [], _∷_}

@@ -1,4 +1,4 @@
--- Identifiers and keywords, from where a scan and the trie stand. Assumes nothing.
+-- Identifiers and keywords, from where a scan and the trie stand.
 use mathlib.Core.Path.{_≡_, refl, sym, ap, _∙_}
 use mathlib.Core.Logic.{⊎-elim}
 use mathlib.Core.List.{List}

@@ -1,4 +1,4 @@
--- How many bytes stand before the first that equals a byte, for the contract of `find` in src/scan.rt. Assumes nothing: this is a definition.
+-- How many bytes stand before the first that equals a byte, for the contract of `find`.
 use Prim.Native.Nat.{ℕ, suc}
 use mathlib.Core.Bool.{cond}
 use mathlib.Core.List.{List, [], _∷_}

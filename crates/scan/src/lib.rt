@@ -1,4 +1,4 @@
-// Which token starts a text, and how long it is: branches over the classes of its bytes. Each byte is looked at once, but for two at most behind a token.
+// Which token starts a text, and how long it is: branches over the classes of its bytes. A byte is looked at once, but for the stars of a block comment and two bytes at most behind a token.
 mod words;
 
 use token::Scan;

@@ -4,7 +4,6 @@
 --     piece-inside    a token is not empty and lies inside the text, from the offset on: so each call moves on
 --     piece-empty     where there is no token the piece is empty
 --     piece-again     read again from where it starts, it is the same: so at the end, and where no token starts, a reader stays
--- Assumes nothing.
 use mathlib.Core.Path.{_≡_, refl, sym, ap, _∙_, subst}
 use mathlib.Core.Bool.{Bool, true, false, cond}
 use mathlib.Core.List.{List}

@@ -1,4 +1,4 @@
--- The first token of a text from an offset on, by the lexer's cuts. Assumes nothing: these are definitions.
+-- The first token of a text from an offset on, by the lexer's cuts.
 use Prim.Native.Nat.{ℕ, _+_}
 use mathlib.Core.Bool.{cond}
 use mathlib.Core.List.{List}

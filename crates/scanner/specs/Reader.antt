@@ -1,4 +1,4 @@
--- What a reader reads, and where it stands afterwards. Assumes nothing: these are definitions.
+-- What a reader reads, and where it stands afterwards.
 use Prim.Native.Nat.{ℕ}
 use mathlib.Core.List.{List}
 use denote.Ref.{RefT, now}

@@ -1,4 +1,4 @@
--- Laws of a table's numbers: what the stores of a record write, and what is left to wipe. Assumes nothing.
+-- Laws of a table's numbers: what the stores of a record write, and what is left to wipe.
 use mathlib.Core.Path.{_≡_, _∙_}
 use mathlib.Core.List.{List, [], _∷_, _++_, append-nil, append-assoc}
 use Prim.Native.Nat.{ℕ, suc, _+_, _*_, _-_, _/_, _≤_, _<_}

@@ -1,4 +1,4 @@
--- A reader of the code, call by call: W is what the whole is, and each law takes one call more. Assumes nothing.
+-- A reader of the code, call by call: W is what the whole is, and each law takes one call more.
 --     on, off      a call that answered, and one that refused
 --     kept         a call that returned the state
 --     last         the last call, whose answer is returned; ret, ends: the state that is returned

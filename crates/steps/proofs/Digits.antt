@@ -1,4 +1,4 @@
--- Laws of decimal digits and of ids. Assumes nothing.
+-- Laws of decimal digits and of ids.
 use mathlib.Core.Path.{_≡_, refl}
 use mathlib.Core.Bool.{true, false}
 use mathlib.Core.List.{List, [], _∷_}

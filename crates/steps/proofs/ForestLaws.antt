@@ -2,7 +2,6 @@
 --     _⊕_                 a forest and one behind it; it is associative, and bare is its unit
 --     sizes-plus, counts-plus, rows-plus, notes-plus    the counts and the rows of both
 --     perhaps-plus, each-plus, throws-plus    the parts of each tree as forests of their own
--- Assumes nothing.
 use mathlib.Core.Path.{_≡_, refl, ap}
 use mathlib.Core.List.{List, [], _∷_, _++_, append-assoc}
 use mathlib.Core.Option.{Option, some, none}

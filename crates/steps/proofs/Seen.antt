@@ -8,7 +8,6 @@
 --     advance-ahead       one token further
 --     few-left            the bytes left
 --     small-bump, small-sum    the code's numbers are counted as they are
--- Assumes nothing.
 use mathlib.Core.Path.{_≡_, refl, sym, _∙_}
 use mathlib.Core.Bool.{Bool, true, false, not, cond}
 use mathlib.Core.List.{List, [], _∷_, _++_}

@@ -4,7 +4,6 @@
 --     refuse-m            a refusal at the token ahead
 --     when-m, one-m       by the kind of the token ahead
 --     here-in, start-in, taken-in    the steps of the meaning alone
--- Assumes nothing.
 use mathlib.Core.Path.{_≡_, refl, ap, _∙_}
 use mathlib.Core.Bool.{Bool, true, false, cond, false≢true}
 use mathlib.Core.List.{List, [], _∷_}

@@ -6,7 +6,6 @@
 --     lay-rest            rows written into the rest of a table
 --     wiped-lay           rows that all fit, and 0 past them, are the filled table
 --     length-lay          a table keeps its length
--- Assumes nothing.
 use mathlib.Core.Path.{_≡_, refl, sym, ap, _∙_}
 use mathlib.Core.Bool.{Bool, true, false, cond}
 use mathlib.Core.List.{List, [], _∷_, _++_, append-assoc, append-nil}

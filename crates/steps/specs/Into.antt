@@ -1,5 +1,5 @@
 -- What the code's steps do to the state and to both tables: parser/specs/Steps, with records written as they are read. Contracts of this crate and of those
--- above it cite it, and reader/proofs/Meant shows that it means the definitions; nothing else has to believe it. Assumes nothing: these are definitions.
+-- above it cite it, and reader/proofs/Meant shows that it means the definitions; nothing else has to believe it.
 use mathlib.Core.Path.{_≡_}
 use mathlib.Core.Bool.{Bool, false, cond, _||_}
 use mathlib.Core.List.{List, _++_}

@@ -1,7 +1,6 @@
 -- The table of classes is held to the patterns: a byte leaves of each state what its class's representative leaves, and that is the next state.
 --     step-law      behind the byte c the state s is the state that `step` gives for its class
 --     kind-law      the first rule of a state that the empty text matches is the one that `kindAt` gives
--- Assumes nothing.
 use mathlib.Core.Path.{_≡_, refl, ap, _∙_}
 use mathlib.Core.Bool.{Bool, true, false, cond, Bool·beq}
 use mathlib.Core.List.{List, [], _∷_}

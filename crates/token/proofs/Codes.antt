@@ -1,4 +1,4 @@
--- Kinds of tokens by their numbers: kinds of one number are one (`same-kind`). Assumes nothing.
+-- Kinds of tokens by their numbers: kinds of one number are one (`same-kind`).
 use mathlib.Core.Path.{_≡_, refl, sym, ap, _∙_}
 use mathlib.Core.Bool.{true}
 use mathlib.Core.List.{List, [], _∷_}

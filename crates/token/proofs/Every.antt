@@ -1,4 +1,4 @@
--- A rule of a table, proved at all of its entries by one test that antt computes, one entry after the other. Assumes nothing.
+-- A rule of a table, proved at all of its entries by one test that antt computes, one entry after the other.
 use mathlib.Core.Path.{subst, sym, _∙_}
 use mathlib.Core.Bool.{Bool, true, false}
 use mathlib.Core.List.{List, [], _∷_}

@@ -1,4 +1,4 @@
--- Worked examples of `scan`, by computation. Assumes nothing.
+-- Worked examples of `scan`, by computation.
 use mathlib.Core.Path.{_≡_, refl}
 use mathlib.Core.List.{List, _++_}
 use Prim.Native.Nat.{ℕ}

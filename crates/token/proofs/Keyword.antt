@@ -1,7 +1,6 @@
 -- The bytes of a token whose kind is that of one word alone.
 --     keyword-bytes   they are the word's
 --     hit-first       what is scanned has a rule
--- Assumes nothing.
 use mathlib.Core.Path.{_≡_, refl, ap, _∙_, subst}
 use mathlib.Core.Logic.{⊎-elim}
 use mathlib.Core.Bool.{Bool, true, false, cond, not, _&&_, _||_}

@@ -1,4 +1,4 @@
--- `deriv` and `nullable` say what matching means: a text matches r iff what is left of r behind it matches the empty text. Assumes nothing.
+-- `deriv` and `nullable` say what matching means: a text matches r iff what is left of r behind it matches the empty text.
 use mathlib.Core.Path.{_≡_, refl, sym, ap, _∙_}
 use mathlib.Core.Logic.{_⊎_, inl, inr, ⊎-elim, _↔_}
 use mathlib.Core.Bool.{Bool, true, false, cond, _&&_, _||_}

@@ -1,6 +1,5 @@
 -- `scan` is the longest match in the textbook's words: its kind is that of the first rule that matches so many bytes, and no rule matches more.
 --     scan-longest  for every text
--- Assumes nothing.
 use mathlib.Core.Path.{_≡_, refl, sym, ap, _∙_}
 use mathlib.Core.Logic.{⊎-elim}
 use mathlib.Core.Option.{Option, some, none}

@@ -1,4 +1,4 @@
--- Cases on two numbers. Assumes nothing.
+-- Cases on two numbers.
 use mathlib.Core.Path.{_≡_, refl}
 use mathlib.Core.Logic.{_⊎_, inl, inr}
 use mathlib.Core.Bool.{Bool, true, false}

@@ -4,7 +4,6 @@
 --     reach-run     over all bytes that leave the state as it is
 --     reach-end     no byte is left
 --     reach-stop    the next byte ends the token
--- Assumes nothing.
 use mathlib.Core.Path.{_≡_, refl, sym, ap, _∙_}
 use mathlib.Core.Logic.{_⊎_, inl, inr}
 use mathlib.Core.Bool.{Bool, true, false, cond, _&&_}

@@ -1,4 +1,4 @@
--- Rules compared by a test that antt computes: `rules-eq`, rules that pass it are the same. Assumes nothing.
+-- Rules compared by a test that antt computes: `rules-eq`, rules that pass it are the same.
 use mathlib.Core.Path.{_≡_, refl, sym, ap, ap₂, _∙_}
 use mathlib.Core.Bool.{Bool, true, false, cond}
 use mathlib.Core.List.{List, [], _∷_}

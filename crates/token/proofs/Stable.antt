@@ -3,7 +3,6 @@
 --     moved         a token of one text is the same token in front of another
 --     alone         and with nothing behind it
 --     fixed         a fixed text that is a token by itself is that token in front of what stops it
--- Assumes nothing.
 use mathlib.Core.Path.{_≡_, refl, sym, ap, _∙_}
 use mathlib.Core.Bool.{Bool, true, false, cond, not, _||_}
 use mathlib.Core.List.{List, [], _∷_, _++_, append-nil}

@@ -5,7 +5,6 @@
 --     no-word-sign  behind a byte that is no letter and no digit no word follows
 --     no-word-first a text that starts with no letter starts with no word
 --     kind-word     the kind of the word that a node spells
--- Assumes nothing.
 use mathlib.Core.Path.{_≡_, refl, sym, ap, _∙_}
 use mathlib.Core.Bool.{Bool, true, false, cond, not, _&&_, Bool·beq}
 use mathlib.Core.List.{List, [], _∷_, _++_, append-nil}

@@ -1,4 +1,4 @@
--- Tests as facts. Assumes nothing.
+-- Tests as facts.
 use mathlib.Core.Path.{_≡_, refl}
 use mathlib.Core.Bool.{Bool, true, false}
 use lib.Dec.{T}

@@ -1,5 +1,4 @@
 -- The words need no states of their own: `scan` is the longest match of the other rules, an identifier that is a word renamed.
--- Assumes nothing.
 use mathlib.Core.Path.{_≡_, refl, sym, ap, _∙_}
 use mathlib.Core.Logic.{_⊎_, inl, inr, ⊎-elim}
 use mathlib.Core.Bool.{Bool, true, false, cond, _&&_, _||_}

@@ -1,4 +1,4 @@
--- The states of a scan, for the contracts of src/scan.rt: what is left of the rules that are no words, by the class of each byte. Assumes nothing.
+-- The states of a scan, for the contracts of scan/src: what is left of the rules that are no words, by the class of each byte.
 use Prim.Native.Nat.{ℕ, _-_, _<_, _≤_}
 use mathlib.Core.Path.{_≡_}
 use mathlib.Core.Bool.{Bool, true, false, cond, _&&_}

@@ -1,4 +1,4 @@
--- Which byte behind a token ends it whatever follows. Assumes nothing: these are definitions.
+-- Which byte behind a token ends it whatever follows.
 use Prim.Native.Nat.{ℕ, _<_}
 use mathlib.Core.Bool.{Bool, true, not, cond}
 use mathlib.Core.List.{List, [], _∷_}

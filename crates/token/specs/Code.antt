@@ -1,4 +1,4 @@
--- The number of each kind of token, its place in token.rs from 0, and what is told by it. Assumes nothing: these are definitions.
+-- The number of each kind of token, its place in token.rs from 0, and what is told by it.
 use Prim.Native.Nat.{ℕ}
 use mathlib.Core.Bool.{Bool, false, _||_}
 use mathlib.Core.List.{List, [], _∷_}

@@ -1,5 +1,4 @@
 -- What it means that a text matches a regular expression, and that a token is the longest match, as it is written in books.
--- Assumes nothing: these are definitions.
 use Prim.Native.Nat.{ℕ, _<_, _≤_}
 use mathlib.Core.Path.{_≡_}
 use mathlib.Core.Logic.{_⊎_}

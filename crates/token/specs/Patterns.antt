@@ -1,4 +1,4 @@
--- The patterns of rico's lexer/token.rs, one by one, each with its kind. Assumes nothing: these are definitions.
+-- The patterns of rico's lexer/token.rs, one by one, each with its kind.
 use Prim.Native.Nat.{ℕ}
 use Prim.Native.String.{String}
 use mathlib.Core.List.{List, [], _∷_, _++_, map}

@@ -1,4 +1,4 @@
--- Regular expressions over bytes, and what is left of one behind a byte (its derivative). Assumes nothing: these are definitions.
+-- Regular expressions over bytes, and what is left of one behind a byte (its derivative).
 -- `Match` has what matching means in the textbook's words, and `proofs/Matching` that the two agree.
 use Prim.Native.Nat.{ℕ}
 use Prim.Native.Char.{code}

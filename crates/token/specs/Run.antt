@@ -1,4 +1,4 @@
--- How many bytes stand before the first of some classes, for the contracts of src/scan.rt. Assumes nothing: these are definitions.
+-- How many bytes stand before the first of some classes, for the contracts of scan/src.
 use Prim.Native.Nat.{ℕ, suc}
 use mathlib.Core.Bool.{Bool, cond, _&&_}
 use mathlib.Core.List.{List, [], _∷_}

@@ -1,4 +1,4 @@
--- The longest match: what a scan of the start of a text has to answer. Assumes nothing: these are definitions.
+-- The longest match: what a scan of the start of a text has to answer.
 -- `Match` says the same in the textbook's words, and `proofs/Meaning` that the two agree.
 use Prim.Native.Nat.{ℕ, suc}
 use mathlib.Core.Bool.{cond}

@@ -1,4 +1,4 @@
--- The constant tables of the lexer, and what their entries stand for. Made by tools/lexer_tables.py. Assumes nothing: these are definitions.
+-- The constant tables of the lexer, and what their entries stand for. Made by tools/lexer_tables.py.
 use Prim.Native.Nat.{ℕ}
 use Prim.Native.String.{String}
 use mathlib.Core.List.{List, [], _∷_}

@@ -1,4 +1,4 @@
--- The kind of a word, and its letters followed through the trie, for the contracts of src/scan.rt. Assumes nothing: these are definitions.
+-- The kind of a word, and its letters followed through the trie, for the contracts of scan/src.
 use Prim.Native.Nat.{ℕ, _+_, _<_, _≤_}
 use mathlib.Core.Path.{_≡_}
 use mathlib.Core.Bool.{Bool, true, false, cond, _&&_}

@@ -1,4 +1,4 @@
--- What a search says of the offset that it looks for. Assumes nothing.
+-- What a search says of the offset that it looks for.
 use mathlib.Core.Path.{_≡_, refl}
 use mathlib.Core.Option.{Option, some, none}
 use Prim.Native.Nat.{ℕ}

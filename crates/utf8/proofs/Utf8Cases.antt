@@ -1,4 +1,4 @@
--- Texts, and where they stop being UTF-8: each is computed. Assumes nothing.
+-- Texts, and where they stop being UTF-8: each is computed.
 use mathlib.Core.Path.{_≡_, refl}
 use mathlib.Core.List.{List, [], _∷_}
 use mathlib.Core.Option.{Option, some}

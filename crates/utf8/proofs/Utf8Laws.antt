@@ -3,7 +3,6 @@
 --     well-join     two well-formed texts, one behind the other, are one
 --     well-left, well-right    a well-formed text cut before a byte below 128, or at its end
 --     well-ascii    bytes below 128 are well-formed
--- Assumes nothing.
 use mathlib.Core.Path.{_≡_, refl, sym, ap, _∙_}
 use mathlib.Core.Bool.{Bool, true, false, cond, _&&_, and-eq-true-iff, false≢true}
 use mathlib.Core.List.{List, [], _∷_, _++_}

@@ -1,4 +1,4 @@
--- An offset that a search finds, or none, as the code answers it. Assumes nothing: these are definitions.
+-- An offset that a search finds, or none, as the code answers it.
 use Prim.Native.Nat.{ℕ}
 use mathlib.Core.Option.{Option, some, none}
 use Rattle.utf8.specs.declared.Found.{Found}

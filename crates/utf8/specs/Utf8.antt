@@ -1,4 +1,4 @@
--- UTF-8 as RFC 3629, section 4, has it: a row for each alternative of UTF8-char, with the ranges of its bytes. Assumes nothing: these are definitions.
+-- UTF-8 as RFC 3629, section 4, has it: a row for each alternative of UTF8-char, with the ranges of its bytes.
 use Prim.Native.Nat.{ℕ, zero, suc}
 use mathlib.Core.Bool.{Bool, true, false, cond, _&&_}
 use mathlib.Core.List.{List, [], _∷_}

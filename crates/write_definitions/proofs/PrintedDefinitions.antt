@@ -2,7 +2,6 @@
 --     body-printed         ` {`, the members, `}`, annotations
 --     definition-printed   a definition
 --     document-printed     all of them
--- Assumes nothing.
 use mathlib.Core.Path.{_≡_, refl, sym, _∙_}
 use mathlib.Core.Bool.{true, false, cond}
 use mathlib.Core.List.{List, [], _∷_}

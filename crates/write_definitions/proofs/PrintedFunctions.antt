@@ -1,7 +1,6 @@
 -- On the records of a function or an enum member, the printer writes it.
 --     params-printed, throws-printed   parameters; thrown fields
 --     function-printed, member-printed
--- Assumes nothing.
 use mathlib.Core.Path.{_≡_, refl, sym, ap}
 use mathlib.Core.Logic.{_⊎_, inl, inr}
 use mathlib.Core.Bool.{Bool, true, false, cond}

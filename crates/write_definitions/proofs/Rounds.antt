@@ -1,4 +1,4 @@
--- The loops over members and definitions, turn by turn; Z is what the whole is. Assumes nothing.
+-- The loops over members and definitions, turn by turn; Z is what the whole is.
 --     ..-turn      a turn is left: the test, and then the turn and the turns behind it
 --     ..-over      no turn is left
 use mathlib.Core.Path.{_≡_, refl, _∙_}

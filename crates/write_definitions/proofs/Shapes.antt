@@ -1,4 +1,4 @@
--- What each function of this crate is, as its first call and what follows it, strings as bytes; its tests are those of the code. Assumes nothing.
+-- What each function of this crate is, as its first call and what follows it, strings as bytes; its tests are those of the code.
 --     ..-is                     a function of the output, one law each; the loops' are in Rounds
 use mathlib.Core.Path.{_≡_, refl, sym, ap}
 use mathlib.Core.Bool.{true, false, cond}

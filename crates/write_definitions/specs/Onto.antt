@@ -1,5 +1,5 @@
 -- What each function that writes a function, an enum member or a definition does to where the printer stands and to the output. Contracts of this crate and of
--- the printer cite it, and printer/proofs/Meant shows what it means; nothing else has to believe it. Assumes nothing: these are definitions.
+-- the printer cite it, and printer/proofs/Meant shows what it means; nothing else has to believe it.
 use mathlib.Core.Bool.{true, false, cond}
 use mathlib.Core.List.{List}
 use Prim.Native.Nat.{ℕ, zero, suc}

@@ -257,7 +257,7 @@ fn write_const(text: &[u8], nodes: &[u32], count: u32, out: &mut [u8], at: Curso
 {
     let named = write_fields::write_typed_name(text, nodes, count, out, at);
     let equals = cursor::put(out, named, b" = ");
-    let value = write_fields::write_value(text, nodes, count, out, equals, write_fields::NESTING);
+    let value = write_fields::write_value(text, nodes, count, out, equals, parser::NESTING);
     cursor::put(out, value, b"\n")
 }
 

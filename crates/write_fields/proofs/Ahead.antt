@@ -4,7 +4,6 @@
 --     Got, on          what holds of where a step leads, one step after another
 --     puts, puts1 to puts4, passes, passes-note, prints-token   the steps that all others are made of
 --     kind-is, parent-is, flags-are, note-parent-is   what the tables say of the next record
--- Assumes nothing.
 use mathlib.Core.Path.{_≡_, refl, sym, ap, _∙_}
 use mathlib.Core.Logic.{_⊎_, inl, inr, ⊎-elim}
 use mathlib.Core.Bool.{Bool, true, false, cond}

@@ -4,7 +4,6 @@
 --     after-forest, late-tree, late-forest   of the rows of trees before others
 --     not-kind, not-parent, not-below, not-noted   the tests
 --     under-long, unders-long  how many rows
--- Assumes nothing.
 use mathlib.Core.Path.{_≡_, refl, sym}
 use mathlib.Core.Bool.{Bool, true, false, cond, false≢true}
 use mathlib.Core.List.{List, [], _∷_}

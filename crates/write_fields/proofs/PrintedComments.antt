@@ -2,7 +2,6 @@
 --     spaces-printed     so many spaces
 --     comments-printed   a node's comments, behind the indent
 --     comments-passed    a node's comments, not printed
--- Assumes nothing.
 use mathlib.Core.Path.{_≡_, refl}
 use mathlib.Core.Bool.{true, cond}
 use mathlib.Core.List.{List, [], _∷_}

@@ -3,7 +3,6 @@
 --     assigned-printed       ` = ` and what follows it, if it is there
 --     field-printed          a field, on its lines
 --     param-printed          a parameter or a thrown field: its annotations are passed, its comments too
--- Assumes nothing.
 use mathlib.Core.Path.{_≡_, refl, sym}
 use mathlib.Core.Bool.{Bool, true, false, cond}
 use mathlib.Core.List.{List, [], _∷_}

@@ -2,7 +2,6 @@
 --     Good             a token of the text, of the kind that its bytes have
 --     leaf-printed, name-printed, literal-printed   its bytes are printed, its record passed
 --     comma-printed    `, ` before all but the first
--- Assumes nothing.
 use mathlib.Core.Path.{_≡_, refl}
 use mathlib.Core.Bool.{Bool, true, false}
 use mathlib.Core.List.{List, _∷_}

@@ -1,6 +1,5 @@
 -- On the records of a type that was read, the printer writes that type.
 --     type-printed   the type's pieces are printed, its records passed
--- Assumes nothing.
 use mathlib.Core.Path.{_≡_, refl, sym, ap, _∙_}
 use mathlib.Core.Bool.{Bool, true, false, cond}
 use mathlib.Core.List.{List, [], _∷_, _++_, append-assoc}

@@ -1,7 +1,6 @@
 -- On the records of a value, or of annotations, the printer writes them.
 --     value-printed         a value's pieces are printed, its records passed
 --     annotations-printed   so for the annotations of a node, if it has them
--- Assumes nothing.
 use mathlib.Core.Path.{_≡_, refl, sym}
 use mathlib.Core.Bool.{Bool, true, false, cond}
 use mathlib.Core.List.{List, [], _∷_, _++_}

@@ -1,4 +1,4 @@
--- The loops over the children of a node and over parameters, turn by turn; Z is what the whole is. Assumes nothing.
+-- The loops over the children of a node and over parameters, turn by turn; Z is what the whole is.
 --     Going        what holds at a loop's head: the turns left, from here, are the whole, and the output is as long
 --     one-less     the turns behind a turn, as the code counts them
 --     ..-turn      a turn is left: the test, and then the turn and the turns behind it

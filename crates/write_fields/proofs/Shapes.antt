@@ -1,4 +1,4 @@
--- What each function of this crate is, as its first call and what follows it, strings as bytes; its tests are those of the code. Assumes nothing.
+-- What each function of this crate is, as its first call and what follows it, strings as bytes; its tests are those of the code.
 --     ..-is                     a function of the output, one law each; the loops' are in Rounds
 --     no-value, value-unless    has_value
 --     is-of-less, is-of-more    is_of

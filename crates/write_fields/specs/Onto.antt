@@ -1,5 +1,5 @@
 -- What each function that writes a type, a value, annotations, a field or parameters does to where the printer stands and to the output. Contracts of this crate
--- and write_definitions/specs/Onto cite it, and printer/proofs/Meant shows what it means; nothing else has to believe it. Assumes nothing: these are definitions.
+-- and write_definitions/specs/Onto cite it, and printer/proofs/Meant shows what it means; nothing else has to believe it.
 use mathlib.Core.Bool.{Bool, true, false, cond}
 use mathlib.Core.List.{List}
 use Prim.Native.Nat.{ℕ, zero, suc}

@@ -4,9 +4,7 @@ ghost use mathlib.Core.Bool.{true};
 ghost use Rattle.cursor.specs.Onto.{Writes, tokenOut};
 ghost use Rattle.write_fields.specs.Onto.{containerOut, mapTypeOut, typeOut, commaOut, eachOut, propertyOut, bracketsOut, valueOut, annotationOut, annotationsOut, idOut, requiredOut, hasValue, assignedOut, typedNameOut, fieldHeadOut, fieldOut, paramOut, isOf, paramsOut};
 use cursor::Cursor;
-
-// Containers inside one another.
-pub const NESTING: u32 = 32;
+use parser::NESTING;
 
 // list< or set<, the contained type, >
 fn write_container(

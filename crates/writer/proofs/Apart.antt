@@ -2,7 +2,6 @@
 --     Break         nothing follows, or a byte that ends every word of the printer
 --     type-apart, value-apart, definition-apart, ...   the print of each thing
 --     pieces-apart  the print of a file, at any indent
--- Assumes nothing.
 use mathlib.Core.Path.{_≡_, refl, sym}
 use mathlib.Core.Bool.{Bool, true, false, cond, not, _||_, false≢true}
 use mathlib.Core.List.{List, [], _∷_}

@@ -1,4 +1,4 @@
--- The printed tokens read back as what was printed, places forgotten, and without what write_param drops. Assumes nothing.
+-- The printed tokens read back as what was printed, places forgotten, and without what write_param drops.
 use mathlib.Core.Path.{_≡_, refl, ap, sym, _∙_}
 use mathlib.Core.Bool.{Bool, true, false, cond, or-false}
 use mathlib.Core.Option.{Option}

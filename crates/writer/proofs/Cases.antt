@@ -1,7 +1,6 @@
 -- Readings and printings by computation, tables and output lent full of sevens.
 --     fits, printed-so, short, zeroed   document 01's last edge: 38 bytes, room 37 gives 27
 --     the rest                      the programs that document 01's "Agreement" does not accept, each with the smallest text on which it is wrong
--- Assumes nothing.
 use mathlib.Core.Path.{_≡_, refl}
 use Rattle.token.specs.Code.{code, is, among}
 use Rattle.token.specs.Regex.{bytes, ranges, within, nullable, isNothing, then, or, deriv}

@@ -3,7 +3,6 @@
 --     cut-through   a token starts wherever one has to
 --     well          they are well-formed UTF-8
 --     fine-print    so such a text is not refused, if it is not too long
--- Assumes nothing.
 use mathlib.Core.Path.{_≡_, refl, ap, _∙_}
 use mathlib.Core.Bool.{Bool, true, false, cond, not}
 use mathlib.Core.List.{List, [], _∷_, _++_, append-nil}

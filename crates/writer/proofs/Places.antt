@@ -1,7 +1,6 @@
 -- The print looks at no place, and at nothing that dropParams drops.
 --     print-forget   a tree without its places is printed as the tree
 --     print-drop     so is one without the comments, requiredness and annotations of parameters and thrown fields
--- Assumes nothing.
 use mathlib.Core.Path.{_≡_, refl, ap}
 use mathlib.Core.List.{List, [], _∷_}
 use mathlib.Core.Option.{Option, some, none}

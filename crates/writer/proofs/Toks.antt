@@ -1,7 +1,6 @@
 -- The tokens of a print, read off its pieces, and the pieces that stand apart. The places are forgotten.
 --     toks          the tokens of the pieces
 --     Sep           blanks are blanks, a token is one by itself, and what follows it ends it
--- Assumes nothing.
 use mathlib.Core.Path.{_≡_}
 use mathlib.Core.Bool.{true, false}
 use mathlib.Core.List.{List, [], _∷_}

@@ -1,4 +1,4 @@
--- The print of each definition: rico's writer/types.rs, values.rs, common.rs and document.rs. Assumes nothing: these are definitions.
+-- The print of each definition: rico's writer/types.rs, values.rs, common.rs and document.rs.
 -- It is made of pieces, blanks and tokens: its bytes and its tokens are both read off them. `writeX x r` is x's pieces, then r.
 use mathlib.Core.Bool.{Bool, true, false}
 use mathlib.Core.List.{List, [], _∷_, _++_}

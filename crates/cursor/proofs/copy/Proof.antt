@@ -1,4 +1,4 @@
--- `cursor::copy` meets its contract. The invariant: so many bytes are copied, and the rest is as it was. Assumes nothing.
+-- `cursor::copy` meets its contract. The invariant: so many bytes are copied, and the rest is as it was.
 use mathlib.Core.Path.{_≡_, refl}
 use Prim.Native.Nat.{_≤_, _-_}
 use native.Mathlib.Omega.{arith}

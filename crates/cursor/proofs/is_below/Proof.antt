@@ -1,4 +1,4 @@
--- `cursor::is_below` meets its contract. Assumes nothing.
+-- `cursor::is_below` meets its contract.
 use borrow.Author.Tests.{lt-ltb, le-ltb, eq-eqb, ne-eqb}
 use Rattle.ast.specs.Records.{noParent}
 use Rattle.cursor.specs.Onto.{below}

@@ -1,4 +1,4 @@
--- `cursor::kind_at` meets its contract. Assumes nothing.
+-- `cursor::kind_at` meets its contract.
 use borrow.Author.Needs.{needs}
 use borrow.Author.Tests.{lt-ltb, le-ltb}
 use Rattle.cursor.specs.Onto.{kindAt}

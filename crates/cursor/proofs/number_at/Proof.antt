@@ -1,4 +1,4 @@
--- `cursor::number_at` meets its contract. Assumes nothing.
+-- `cursor::number_at` meets its contract.
 use borrow.Author.Needs.{needs}
 use borrow.Author.Tests.{le-leb}
 use Rattle.cursor.proofs.Bytes.{number-in, number-past}

@@ -1,4 +1,4 @@
--- `cursor::parent_at` meets its contract. Assumes nothing.
+-- `cursor::parent_at` meets its contract.
 use borrow.Author.Needs.{needs}
 use borrow.Author.Tests.{lt-ltb, le-ltb}
 use Rattle.ast.specs.Records.{noParent}

@@ -1,4 +1,4 @@
--- `cursor::pass_below` meets its contract. The invariant: the turns left, from here, lead where all of them lead. Assumes nothing.
+-- `cursor::pass_below` meets its contract. The invariant: the turns left, from here, lead where all of them lead.
 use mathlib.Core.Path.{_≡_, refl}
 use mathlib.Core.List.{List}
 use Prim.Native.Nat.{ℕ}

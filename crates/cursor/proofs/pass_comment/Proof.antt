@@ -1,4 +1,4 @@
--- `cursor::pass_comment` meets its contract. Assumes nothing.
+-- `cursor::pass_comment` meets its contract.
 use borrow.Author.Needs.{needs}
 use Rattle.cursor.specs.Onto.{passComment}
 use Rattle.cursor.proofs.pass_comment.Statement.{statement}

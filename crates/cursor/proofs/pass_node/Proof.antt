@@ -1,4 +1,4 @@
--- `cursor::pass_node` meets its contract. Assumes nothing.
+-- `cursor::pass_node` meets its contract.
 use borrow.Author.Needs.{needs}
 use Rattle.cursor.specs.Onto.{passNode}
 use Rattle.cursor.proofs.pass_node.Statement.{statement}

@@ -1,4 +1,4 @@
--- `cursor::put` meets its contract. Assumes nothing.
+-- `cursor::put` meets its contract.
 use borrow.Author.Needs.{needs}
 use Rattle.cursor.proofs.Bytes.{put-in, put-past, put-over}
 use Rattle.cursor.proofs.put.Statement.{statement}

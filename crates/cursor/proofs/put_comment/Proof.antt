@@ -1,4 +1,4 @@
--- `cursor::put_comment` meets its contract. Assumes nothing.
+-- `cursor::put_comment` meets its contract.
 use borrow.Author.Needs.{needs}
 use Rattle.cursor.proofs.Runs.{comment-is}
 use Rattle.cursor.proofs.put_comment.Statement.{statement}

@@ -1,4 +1,4 @@
--- `cursor::put_comments` meets its contract. The invariant: the turns left, from here, make what all of them make. Assumes nothing.
+-- `cursor::put_comments` meets its contract. The invariant: the turns left, from here, make what all of them make.
 use mathlib.Core.Path.{_≡_, refl, _∙_}
 use native.Mathlib.Omega.{arith}
 use borrow.Author.Needs.{needs}

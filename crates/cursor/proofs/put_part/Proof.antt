@@ -1,4 +1,4 @@
--- `cursor::put_part` meets its contract. Assumes nothing.
+-- `cursor::put_part` meets its contract.
 use borrow.Author.Needs.{needs}
 use Rattle.cursor.proofs.Bytes.{part-past, part-back, part-in}
 use Rattle.cursor.proofs.put_part.Statement.{statement}

@@ -1,4 +1,4 @@
--- `cursor::put_token` meets its contract. Assumes nothing.
+-- `cursor::put_token` meets its contract.
 use borrow.Author.Needs.{needs}
 use Rattle.cursor.proofs.Runs.{token-is}
 use Rattle.cursor.proofs.put_token.Statement.{statement}

@@ -1,4 +1,4 @@
--- `lexer::check` meets its contract. Assumes nothing.
+-- `lexer::check` meets its contract.
 use mathlib.Core.Path.{refl, sym, _∙_}
 use borrow.Author.Needs.{needs}
 use Rattle.token.specs.Tables.{classes, trie}

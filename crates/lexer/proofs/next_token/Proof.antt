@@ -40,11 +40,12 @@ loop-less : tie.Need-loop-less Inv-loop μ-loop
 loop-less c = omega (arith, ap (λ x. x .at) (c .behind .ensures) ∙ behind-at false (c .before .before .before .before .before .loop .from), c .before .before .before .if1 .left)
 
 loop-again : tie.Need-loop-again Inv-loop μ-loop
-loop-again c = 
+loop-again c =
     let l = c .before .before .before .before .before in
-    let a = l .before .before in
-    (rw (c .behind .ensures) (placed-behind false (l .loop .from) (l .loop .inv .0) (omega (arith, c .before .before .before .if1 .left, a .pre .2))),
-    rw (c .behind .ensures) (l .loop .inv .1 ∙ next-blank _ (l .loop .from) (λ j. omega (arith, l .before .shared-slice-known .given j)) (c .before .before .before .if1 .left) (sym (c .before .before .class-at .ensures) ∙ c .before .if2 .taken)))
+    let a = l .before .before in (
+      rw (c .behind .ensures) (placed-behind false (l .loop .from) (l .loop .inv .0) (omega (arith, c .before .before .before .if1 .left, a .pre .2))),
+      rw (c .behind .ensures) (l .loop .inv .1 ∙ next-blank _ (l .loop .from) (λ j. omega (arith, l .before .shared-slice-known .given j)) (c .before .before .before .if1 .left) (sym (c .before .before .class-at .ensures) ∙ c .before .if2 .taken)),
+    )
 
 behind-requires-2 : tie.Need-behind-requires-2 Inv-loop μ-loop
 behind-requires-2 c κs = let l = c .before .before .before .before .before .before in (l .loop .inv .0, omega (arith, c .before .before .before .before .if1 .left, l .before .before .pre .2))
@@ -53,17 +54,18 @@ loop-less-2 : tie.Need-loop-less-2 Inv-loop μ-loop
 loop-less-2 c = omega (arith, ap (λ x. x .at) (c .behind2 .ensures) ∙ behind-at true (c .before .before .before .before .before .before .before .loop .from), c .before .before .before .before .before .if1 .left)
 
 loop-again-2 : tie.Need-loop-again-2 Inv-loop μ-loop
-loop-again-2 c = 
+loop-again-2 c =
     let l = c .before .before .before .before .before .before .before in
-    let a = l .before .before in
-    (rw (c .behind2 .ensures) (placed-behind true (l .loop .from) (l .loop .inv .0) (omega (arith, c .before .before .before .before .before .if1 .left, a .pre .2))),
-    rw (c .behind2 .ensures) (l .loop .inv .1 ∙ next-line _ (l .loop .from) (λ j. omega (arith, l .before .shared-slice-known .given j)) (c .before .before .before .before .before .if1 .left) _ (c .before .before .before .before .class-at .ensures) (sym (c .before .before .is-line-end .ensures) ∙ c .before .if3 .taken)))
+    let a = l .before .before in (
+      rw (c .behind2 .ensures) (placed-behind true (l .loop .from) (l .loop .inv .0) (omega (arith, c .before .before .before .before .before .if1 .left, a .pre .2))),
+      rw (c .behind2 .ensures) (l .loop .inv .1 ∙ next-line _ (l .loop .from) (λ j. omega (arith, l .before .shared-slice-known .given j)) (c .before .before .before .before .before .if1 .left) _ (c .before .before .before .before .class-at .ensures) (sym (c .before .before .is-line-end .ensures) ∙ c .before .if3 .taken)),
+    )
 
 mark-requires : tie.Need-mark-requires Inv-loop μ-loop
 mark-requires c κs = let l = c .before .before .before .before .before .before .before in (l .loop .inv .0, omega (arith, c .before .before .before .before .before .if1 .left, l .before .before .pre .2))
 
 returns-2 : tie.Need-returns-2 Inv-loop μ-loop
-returns-2 c = 
+returns-2 c =
     let l = c .before .before .before .before .before .before .before .before in
     c .mark .ensures
     ∙ sym (l .loop .inv .1 ∙ next-mark _ (l .loop .from) (c .before .before .before .before .before .before .if1 .left) (λ j. omega (arith, l .before .shared-slice-known .given j)) _ (c .before .before .before .before .before .class-at .ensures) (c .before .if4 .taken) (c .before .before .before .before .if2 .left))

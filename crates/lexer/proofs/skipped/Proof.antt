@@ -1,4 +1,4 @@
--- `lexer::skipped` meets its contract. Assumes nothing.
+-- `lexer::skipped` meets its contract.
 use borrow.Author.Tests.{ne-eqb}
 use Rattle.token.specs.Code.{code, is}
 use Rattle.lexer.specs.Tokens.{skipped}

@@ -1,4 +1,4 @@
--- `limits::put` meets its contract. The invariant: the length of `text` stays. Assumes nothing.
+-- `limits::put` meets its contract. The invariant: the length of `text` stays.
 use Prim.Native.Nat.{_-_}
 use mathlib.Core.Path.{_≡_}
 use lib.ListN.{length}

@@ -1,4 +1,4 @@
--- `limits::try_small` meets its contract. Assumes nothing.
+-- `limits::try_small` meets its contract.
 use native.Mathlib.Omega.{arith}
 use mathlib.Core.Path.{sym}
 use lib.Seq.{length-take-le}

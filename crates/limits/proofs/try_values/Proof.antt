@@ -1,4 +1,4 @@
--- `limits::try_values` meets its contract. The invariants: the length of `text` stays. Assumes nothing.
+-- `limits::try_values` meets its contract. The invariants: the length of `text` stays.
 use Prim.Native.Nat.{_-_}
 use mathlib.Core.Path.{_≡_}
 use lib.ListN.{length}

@@ -1,4 +1,4 @@
--- `limits::write_table` meets its contract. Assumes nothing.
+-- `limits::write_table` meets its contract.
 use Prim.Native.Nat.{_-_}
 use lib.ListN.{length}
 use borrow.Author.Needs.{needs}

@@ -1,4 +1,4 @@
--- `nodes::write_record` meets its contract. Assumes nothing.
+-- `nodes::write_record` meets its contract.
 use Prim.Native.Nat.{_-_}
 use native.Mathlib.Omega.{arith}
 use borrow.Author.Needs.{needs}

@@ -1,4 +1,4 @@
--- `nodes::write_records` meets its contract. Assumes nothing.
+-- `nodes::write_records` meets its contract.
 use Prim.Native.Nat.{_-_}
 use borrow.Author.Needs.{needs}
 use Rattle.nodes.proofs.write_records.Statement.{statement}

@@ -1,4 +1,4 @@
--- `parse_definitions::begin` meets its contract. Assumes nothing.
+-- `parse_definitions::begin` meets its contract.
 use Rattle.steps.proofs.Chain.{done-by, given, kept}
 use Rattle.parse_definitions.proofs.Forms.{begin-is}
 use Rattle.steps.specs.Into.{ownIn}

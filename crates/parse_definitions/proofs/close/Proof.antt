@@ -1,4 +1,4 @@
--- `parse_definitions::close` meets its contract. Assumes nothing.
+-- `parse_definitions::close` meets its contract.
 use Rattle.parse_definitions.proofs.Forms.{recorded}
 use borrow.Author.Needs.{needs}
 use Rattle.parse_definitions.proofs.close.Statement.{statement}

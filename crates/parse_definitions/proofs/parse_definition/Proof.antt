@@ -1,4 +1,4 @@
--- `parse_definitions::parse_definition` meets its contract. Assumes nothing.
+-- `parse_definitions::parse_definition` meets its contract.
 use Rattle.steps.proofs.Chain.{fails, last, no, yes}
 use Rattle.parse_definitions.proofs.Forms.{definition-is}
 use borrow.Author.Needs.{needs}

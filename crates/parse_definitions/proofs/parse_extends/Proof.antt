@@ -1,4 +1,4 @@
--- `parse_definitions::parse_extends` meets its contract. Assumes nothing.
+-- `parse_definitions::parse_extends` meets its contract.
 use Rattle.steps.proofs.Chain.{given, last, no, ret, yes}
 use Rattle.parse_definitions.proofs.Forms.{extends-is}
 use Rattle.parse_fields.specs.Into.{nameIn}

@@ -1,4 +1,4 @@
--- `parse_definitions::parse_scope` meets its contract. Assumes nothing.
+-- `parse_definitions::parse_scope` meets its contract.
 use Rattle.steps.proofs.Chain.{last, no, yes}
 use Rattle.parse_definitions.proofs.Forms.{scope-is}
 use borrow.Author.Needs.{needs}

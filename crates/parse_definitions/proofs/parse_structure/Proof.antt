@@ -1,4 +1,4 @@
--- `parse_definitions::parse_structure` meets its contract. Assumes nothing.
+-- `parse_definitions::parse_structure` meets its contract.
 use mathlib.Core.Path.{_∙_}
 use Rattle.steps.proofs.Chain.{ends, kept, off, on}
 use Rattle.parse_definitions.proofs.Forms.{structure-is}

@@ -1,4 +1,4 @@
--- `parse_fields::parse_leaf` meets its contract. Assumes nothing.
+-- `parse_fields::parse_leaf` meets its contract.
 use Rattle.steps.proofs.Chain.{ends, off, on}
 use Rattle.parse_fields.proofs.Forms.{token-is}
 use borrow.Author.Needs.{needs}

@@ -1,4 +1,4 @@
--- `parse_fields::parse_name` meets its contract. Assumes nothing.
+-- `parse_fields::parse_name` meets its contract.
 use Rattle.steps.proofs.Chain.{last}
 use Rattle.parse_fields.proofs.Forms.{name-is}
 use borrow.Author.Needs.{needs}

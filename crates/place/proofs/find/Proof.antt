@@ -1,4 +1,4 @@
--- `place::find` meets its contract: the tables are those of the specification. Assumes nothing.
+-- `place::find` meets its contract: the tables are those of the specification.
 use mathlib.Core.Path.{refl, _∙_}
 use borrow.Author.Needs.{needs}
 use Rattle.token.specs.Tables.{classes, trie}

@@ -1,4 +1,4 @@
--- `place::first` meets its contract. Assumes nothing.
+-- `place::first` meets its contract.
 use mathlib.Core.Path.{sym, ap, _∙_}
 use borrow.Author.Needs.{needs}
 use Rattle.token.specs.declared.Scan.{Scan}

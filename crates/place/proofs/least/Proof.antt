@@ -1,4 +1,4 @@
--- `place::least` meets its contract. Assumes nothing.
+-- `place::least` meets its contract.
 use mathlib.Core.Path.{sym}
 use Rattle.place.proofs.WalkLaws.{least-lt, least-le}
 use Rattle.place.proofs.least.Statement.{statement}

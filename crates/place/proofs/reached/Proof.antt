@@ -1,4 +1,4 @@
--- `place::reached` meets its contract. The invariant: the way left from here leads where the whole way leads. Assumes nothing.
+-- `place::reached` meets its contract. The invariant: the way left from here leads where the whole way leads.
 use mathlib.Core.Path.{_≡_, sym, ap, _∙_, subst}
 use Prim.Native.Nat.{ℕ, _≤_, _<_, _-_, _+_}
 use native.Mathlib.Omega.{arith}

@@ -1,4 +1,4 @@
--- `print::print_text` meets its contract. A law gives the length of each array, so that none is computed. Assumes nothing.
+-- `print::print_text` meets its contract. A law gives the length of each array, so that none is computed.
 use mathlib.Core.Path.{_≡_, sym}
 use Prim.Native.Nat.{ℕ}
 use lib.ListN.{length, replicate, length-replicate}

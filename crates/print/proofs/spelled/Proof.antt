@@ -1,4 +1,4 @@
--- `print::spelled` meets its contract. Assumes nothing.
+-- `print::spelled` meets its contract.
 use Prim.Native.Nat.{_-_}
 use lib.ListN.{length}
 use borrow.Author.Needs.{needs}

@@ -1,4 +1,4 @@
--- `print_limits::count_numbers` meets its contract. The invariant: no more are counted than were looked at. Assumes nothing.
+-- `print_limits::count_numbers` meets its contract. The invariant: no more are counted than were looked at.
 use mathlib.Core.Logic.{⊎-elim}
 use Prim.Native.Nat.{_≤_, _-_}
 use native.Mathlib.Omega.{arith}

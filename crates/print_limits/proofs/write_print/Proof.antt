@@ -1,4 +1,4 @@
--- `print_limits::write_print` meets its contract. Assumes nothing.
+-- `print_limits::write_print` meets its contract.
 use native.Mathlib.Omega.{arith}
 use mathlib.Core.Path.{sym}
 use lib.Seq.{length-take-le}

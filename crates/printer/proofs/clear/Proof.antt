@@ -1,4 +1,4 @@
--- `printer::clear` meets its contract. The invariant: what is still to be wiped is what was to be wiped at the start. Assumes nothing.
+-- `printer::clear` meets its contract. The invariant: what is still to be wiped is what was to be wiped at the start.
 use mathlib.Core.Path.{_≡_, refl, sym, _∙_}
 use Prim.Native.Nat.{_≤_, _-_}
 use native.Mathlib.Omega.{arith}

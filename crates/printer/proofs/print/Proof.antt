@@ -1,4 +1,4 @@
--- `printer::print` meets its contract. Assumes nothing.
+-- `printer::print` meets its contract.
 use mathlib.Core.Path.{_∙_}
 use borrow.Author.Needs.{needs}
 use Rattle.printer.proofs.Whole.{all-long, all-wide, all-refused, all-accepted}

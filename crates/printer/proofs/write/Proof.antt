@@ -1,4 +1,4 @@
--- `printer::write` meets its contract. Assumes nothing.
+-- `printer::write` meets its contract.
 use borrow.Author.Needs.{needs}
 use Rattle.printer.proofs.Whole.{written-is}
 use Rattle.printer.proofs.write.Statement.{statement}

@@ -1,4 +1,4 @@
--- `reader::begin` meets its contract. Assumes nothing.
+-- `reader::begin` meets its contract.
 use native.Mathlib.Omega.{arith}
 use borrow.Author.Needs.{needs}
 use Rattle.lexer.specs.Location.{between, opening}

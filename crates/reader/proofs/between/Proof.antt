@@ -1,4 +1,4 @@
--- `reader::between` meets its contract. Assumes nothing.
+-- `reader::between` meets its contract.
 use borrow.Author.Needs.{needs}
 use Rattle.steps.specs.Into.{after, skipIn}
 use Rattle.reader.specs.Into.{betweenIn}

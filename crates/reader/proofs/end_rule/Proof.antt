@@ -1,4 +1,4 @@
--- `reader::end_rule` meets its contract. Assumes nothing.
+-- `reader::end_rule` meets its contract.
 use borrow.Author.Tests.{eq-eqb, ne-eqb}
 use Rattle.reader.specs.Into.{ended}
 use Rattle.reader.proofs.end_rule.Statement.{statement}

@@ -1,7 +1,8 @@
--- `reader::fit` meets its contract. Assumes nothing.
+-- `reader::fit` meets its contract.
 use borrow.Author.Needs.{needs}
 use borrow.Author.Tests.{lt-ltb, le-ltb}
 use Rattle.ast.specs.Records.{width, room}
+use Rattle.parser.specs.Read.{said}
 use Rattle.reader.specs.Into.{fits}
 use Rattle.reader.proofs.fit.Statement.{statement}
 use Rattle.reader.proofs.fit.Tie as tie
@@ -17,7 +18,7 @@ returns-2 c =
     rw (le-ltb _ _ h, lt-ltb _ _ (c .before .before .before .before .before .before .before .if2 .taken)) (c .before .before .before .before .refuse2 .ensures)
 
 returns-3 : tie.Need-returns-3
-unfolding fits room width
+unfolding fits room width said
 returns-3 c =
     let h = c .before .before .before .before .before .before .before .before .before .if1 .left in
     let k = c .before .before .before .before .before .before .before .before .if2 .left in

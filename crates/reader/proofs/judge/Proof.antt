@@ -1,4 +1,4 @@
--- `reader::judge` meets its contract. Assumes nothing.
+-- `reader::judge` meets its contract.
 use mathlib.Core.Path.{_∙_}
 use Rattle.steps.specs.Into.{shows}
 use Rattle.reader.specs.Into.{judged}

@@ -1,4 +1,4 @@
--- `reader::over` meets its contract. Assumes nothing.
+-- `reader::over` meets its contract.
 use borrow.Author.Needs.{needs}
 use borrow.Author.Tests.{eq-eqb, ne-eqb}
 use Rattle.steps.specs.Into.{shows, refuseIn}

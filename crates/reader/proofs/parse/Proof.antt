@@ -1,4 +1,4 @@
--- `reader::parse` meets its contract. Assumes nothing.
+-- `reader::parse` meets its contract.
 use mathlib.Core.Path.{refl, sym, _∙_}
 use native.Mathlib.Omega.{arith}
 use Rattle.token.specs.Tables.{classes, trie}

@@ -1,4 +1,4 @@
--- `reader::parse_in_rest` meets its contract. Assumes nothing.
+-- `reader::parse_in_rest` meets its contract.
 use Rattle.reader.proofs.Whole.{rest-is}
 use borrow.Author.Needs.{needs}
 use Rattle.reader.proofs.parse_in_rest.Statement.{statement}

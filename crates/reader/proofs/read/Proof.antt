@@ -1,4 +1,4 @@
--- `reader::read` meets its contract. Assumes nothing.
+-- `reader::read` meets its contract.
 use mathlib.Core.Path.{sym, _∙_}
 use native.Mathlib.Omega.{arith}
 use Rattle.lexer.proofs.CheckLaws.{too-long, ill}

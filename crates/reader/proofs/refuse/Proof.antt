@@ -1,12 +1,13 @@
--- `reader::refuse` meets its contract. Assumes nothing.
+-- `reader::refuse` meets its contract.
 use borrow.Author.Needs.{needs}
+use Rattle.parser.specs.Read.{said}
 use Rattle.reader.specs.Into.{refusing}
 use Rattle.steps.proofs.Cells.{wipe-all}
 use Rattle.reader.proofs.refuse.Statement.{statement}
 use Rattle.reader.proofs.refuse.Tie as tie
 
 returns : tie.Need-returns
-unfolding refusing
+unfolding refusing said
 returns c = rw (c .before .before .before .before .before .before .clear .ensures, c .before .before .clear2 .ensures, wipe-all, wipe-all)
 
 pub refuse-spec : {M : Type 1} → statement M

@@ -1,4 +1,4 @@
--- `reader::refuse_at` meets its contract. Assumes nothing.
+-- `reader::refuse_at` meets its contract.
 use mathlib.Core.Path.{_≡_, _∙_}
 use mathlib.Core.Logic.{⊎-elim}
 use Prim.Native.Nat.{_-_}

@@ -1,4 +1,4 @@
--- `reader::rest_of` meets its contract. Assumes nothing.
+-- `reader::rest_of` meets its contract.
 use native.Mathlib.Omega.{arith}
 use borrow.Author.Needs.{needs}
 use borrow.Author.Tests.{lt-ltb, le-ltb}

@@ -1,4 +1,4 @@
--- `reader::unscanned` meets its contract. Assumes nothing.
+-- `reader::unscanned` meets its contract.
 use native.Mathlib.Omega.{arith}
 use Rattle.steps.specs.Into.{shows}
 use Rattle.reader.specs.Into.{unscanned}

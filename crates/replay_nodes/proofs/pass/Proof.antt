@@ -1,4 +1,4 @@
--- `replay_nodes::pass` meets its contract. The invariant: the length of `bytes` stays. Assumes nothing.
+-- `replay_nodes::pass` meets its contract. The invariant: the length of `bytes` stays.
 use native.Mathlib.Omega.{arith}
 use mathlib.Core.Path.{_≡_, sym}
 use lib.ListN.{length}

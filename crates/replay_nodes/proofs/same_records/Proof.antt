@@ -1,4 +1,4 @@
--- `replay_nodes::same_records` meets its contract. Assumes nothing.
+-- `replay_nodes::same_records` meets its contract.
 use Prim.Native.Nat.{_-_}
 use borrow.Author.Needs.{needs}
 use Rattle.replay_nodes.proofs.same_records.Statement.{statement}

@@ -1,4 +1,4 @@
--- `replay_nodes::zero_from` meets its contract. Assumes nothing.
+-- `replay_nodes::zero_from` meets its contract.
 use Prim.Native.Nat.{_-_}
 use lib.ListN.{length}
 use borrow.Author.Needs.{needs}

@@ -1,4 +1,4 @@
--- `replay_prints::are_numbered` meets its contract. Assumes nothing.
+-- `replay_prints::are_numbered` meets its contract.
 use Prim.Native.Nat.{_-_}
 use borrow.Author.Needs.{needs}
 use Rattle.replay_prints.proofs.are_numbered.Statement.{statement}

@@ -1,4 +1,4 @@
--- `replay_prints::compare` meets its contract. The invariant: the length of `space` stays. Assumes nothing.
+-- `replay_prints::compare` meets its contract. The invariant: the length of `space` stays.
 use Prim.Native.Nat.{_-_}
 use mathlib.Core.Path.{_≡_}
 use lib.ListN.{length}

@@ -1,4 +1,4 @@
--- `replay_prints::is_short` meets its contract. Assumes nothing.
+-- `replay_prints::is_short` meets its contract.
 use native.Mathlib.Omega.{arith}
 use mathlib.Core.Path.{sym}
 use lib.Seq.{length-take-le}

@@ -1,4 +1,4 @@
--- `replay_prints::pass_records` meets its contract. Assumes nothing.
+-- `replay_prints::pass_records` meets its contract.
 use Prim.Native.Nat.{_-_}
 use borrow.Author.Needs.{needs}
 use Rattle.replay_prints.proofs.pass_records.Statement.{statement}

@@ -1,4 +1,4 @@
--- `replay_prints::read_part` meets its contract. What was read stays at the start of the space. Assumes nothing.
+-- `replay_prints::read_part` meets its contract. What was read stays at the start of the space.
 use mathlib.Core.List.{List, _++_}
 use Prim.Native.Nat.{ℕ, _≤_}
 use native.Mathlib.Omega.{arith}

@@ -1,4 +1,4 @@
--- `replay_tokens::compare` meets its contract. The invariant: the place is in the list, and no more texts differ than were read. Assumes nothing.
+-- `replay_tokens::compare` meets its contract. The invariant: the place is in the list, and no more texts differ than were read.
 use mathlib.Core.Logic.{⊎-elim}
 use Prim.Native.Nat.{_≤_, _-_}
 use native.Mathlib.Omega.{arith}

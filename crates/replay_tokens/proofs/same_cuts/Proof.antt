@@ -1,4 +1,4 @@
--- `replay_tokens::same_cuts` meets its contract: the tables are those of the specification. Assumes nothing.
+-- `replay_tokens::same_cuts` meets its contract: the tables are those of the specification.
 use mathlib.Core.Path.{refl}
 use Rattle.token.specs.Tables.{classes, trie}
 use borrow.Author.Needs.{needs}

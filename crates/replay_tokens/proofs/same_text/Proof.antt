@@ -1,4 +1,4 @@
--- `replay_tokens::same_text` meets its contract: a text that is cut is short enough for the lexer. Assumes nothing.
+-- `replay_tokens::same_text` meets its contract: a text that is cut is short enough for the lexer.
 use Rattle.lexer.proofs.CheckLaws.{fine-fits, unknown-fits, told-fine, told-unknown}
 use borrow.Author.Needs.{needs}
 use Rattle.replay_tokens.proofs.same_text.Statement.{statement}

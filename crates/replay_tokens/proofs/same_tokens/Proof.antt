@@ -1,4 +1,4 @@
--- `replay_tokens::same_tokens` meets its contract. The invariant: the lexer may stand where it does, and the place is in the rows. Assumes nothing.
+-- `replay_tokens::same_tokens` meets its contract. The invariant: the lexer may stand where it does, and the place is in the rows.
 use mathlib.Core.Path.{_≡_, sym, _∙_}
 use Prim.Native.Nat.{_≤_, _-_}
 use borrow.Author.Needs.{needs}

@@ -1,4 +1,4 @@
--- `scan::block_of` meets its contract. The invariant: the scan stands within the comment. Assumes nothing.
+-- `scan::block_of` meets its contract. The invariant: the scan stands within the comment.
 use mathlib.Core.Path.{sym, _∙_}
 use Prim.Native.Nat.{_-_}
 use native.Mathlib.Omega.{arith}

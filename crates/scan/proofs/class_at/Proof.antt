@@ -1,4 +1,4 @@
--- `scan::class_at` meets its contract. Assumes nothing.
+-- `scan::class_at` meets its contract.
 use native.Mathlib.Omega.{arith}
 use borrow.Author.Needs.{needs}
 use Rattle.token.specs.Run.{classOf}

@@ -1,4 +1,4 @@
--- `scan::dot_of` meets its contract. Assumes nothing.
+-- `scan::dot_of` meets its contract.
 use mathlib.Core.Path.{sym}
 use Rattle.token.proofs.Reach.{reach-end}
 use Rattle.scan.proofs.ScanLaws.{point-digit, point-stop}

@@ -1,4 +1,4 @@
--- `scan::exponent_digits` meets its contract. Assumes nothing.
+-- `scan::exponent_digits` meets its contract.
 use mathlib.Core.Path.{sym, ap, _∙_}
 use Rattle.token.specs.declared.Token.the-variants as T
 use Rattle.token.specs.declared.Scan.the-variants.{Hit}

@@ -1,4 +1,4 @@
--- `scan::exponent_of` meets its contract. Assumes nothing.
+-- `scan::exponent_of` meets its contract.
 use mathlib.Core.Path.{sym, _∙_}
 use Rattle.token.proofs.Reach.{reach-end}
 use Rattle.scan.proofs.ScanLaws.{exponent-signed, exponent-plain}

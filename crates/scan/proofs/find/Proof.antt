@@ -1,4 +1,4 @@
--- `scan::find` meets its contract. The invariant: what is sought from `at` on stands where it stands from `i` on. Assumes nothing.
+-- `scan::find` meets its contract. The invariant: what is sought from `at` on stands where it stands from `i` on.
 use mathlib.Core.Path.{_≡_, refl, sym, _∙_}
 use Prim.Native.Nat.{_≤_, _-_, _+_}
 use native.Mathlib.Omega.{arith}

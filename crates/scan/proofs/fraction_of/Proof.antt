@@ -1,4 +1,4 @@
--- `scan::fraction_of` meets its contract. Assumes nothing.
+-- `scan::fraction_of` meets its contract.
 use mathlib.Core.Path.{sym}
 use Rattle.scan.proofs.ScanLaws.{fraction-end, fraction-exponent, fraction-stop}
 use borrow.Author.Needs.{needs}

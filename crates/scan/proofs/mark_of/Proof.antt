@@ -1,4 +1,4 @@
--- `scan::mark_of` meets its contract: each arm is one class. Assumes nothing.
+-- `scan::mark_of` meets its contract: each arm is one class.
 use mathlib.Core.Path.{sym, ap}
 use borrow.Author.Needs.{needs}
 use borrow.Author.Tests.{ne-eqb}

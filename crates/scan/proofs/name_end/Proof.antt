@@ -1,5 +1,5 @@
 use borrow.Author.Needs.{needs}
--- `scan::name_end` meets its contract. The invariant: the scan stands at the end of a piece of the identifier. Assumes nothing.
+-- `scan::name_end` meets its contract. The invariant: the scan stands at the end of a piece of the identifier.
 use mathlib.Core.Path.{sym, _∙_}
 use Prim.Native.Nat.{_≤_, _<_, _-_}
 use native.Mathlib.Omega.{arith}

@@ -1,4 +1,4 @@
--- `scan::run` meets its contract. The invariant: the run from `at` on ends where the run from `i` on does. Assumes nothing.
+-- `scan::run` meets its contract. The invariant: the run from `at` on ends where the run from `i` on does.
 use mathlib.Core.Path.{_≡_, refl, sym, _∙_}
 use mathlib.Core.Logic.{⊎-elim}
 use Prim.Native.Nat.{_≤_, _-_, _+_}

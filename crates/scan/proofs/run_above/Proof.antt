@@ -1,4 +1,4 @@
--- `scan::run_above` meets its contract: as `run`, and every class is below 60. Assumes nothing.
+-- `scan::run_above` meets its contract: as `run`, and every class is below 60.
 use mathlib.Core.Path.{_≡_, refl, sym, _∙_}
 use Prim.Native.Nat.{_≤_, _-_, _+_}
 use native.Mathlib.Omega.{arith}

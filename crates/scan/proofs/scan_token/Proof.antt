@@ -1,4 +1,4 @@
--- `scan::scan_token` meets its contract. Assumes nothing.
+-- `scan::scan_token` meets its contract.
 use mathlib.Core.Path.{ap, _∙_}
 use borrow.Author.Needs.{needs}
 use Rattle.token.specs.Scan.{scan}

@@ -1,4 +1,4 @@
--- `scan::sign_of` meets its contract. Assumes nothing.
+-- `scan::sign_of` meets its contract.
 use mathlib.Core.Path.{sym, ap, _∙_}
 use mathlib.Core.Bool.{true, false}
 use borrow.Author.Tests.{ne-eqb}

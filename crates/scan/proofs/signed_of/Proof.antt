@@ -1,4 +1,4 @@
--- `scan::signed_of` meets its contract. Assumes nothing.
+-- `scan::signed_of` meets its contract.
 use mathlib.Core.Path.{sym, _∙_}
 use Rattle.token.proofs.Reach.{reach-end}
 use Rattle.scan.proofs.ScanLaws.{signed-digit, signed-stop, signed-point, signed-fraction, signed-none}

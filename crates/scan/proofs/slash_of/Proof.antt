@@ -1,4 +1,4 @@
--- `scan::slash_of` meets its contract. Assumes nothing.
+-- `scan::slash_of` meets its contract.
 use mathlib.Core.Path.{sym, ap, _∙_}
 use Rattle.token.specs.declared.Token.the-variants as T
 use Rattle.token.specs.declared.Scan.the-variants.{Hit}

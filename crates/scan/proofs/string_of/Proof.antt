@@ -1,5 +1,5 @@
 use borrow.Author.Needs.{needs}
--- `scan::string_of` meets its contract. The invariant: the scan stands within the string. Assumes nothing.
+-- `scan::string_of` meets its contract. The invariant: the scan stands within the string.
 use mathlib.Core.Path.{sym, _∙_}
 use Prim.Native.Nat.{_-_}
 use native.Mathlib.Omega.{arith}

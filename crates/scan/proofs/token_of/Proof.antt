@@ -1,4 +1,4 @@
--- `scan::token_of` meets its contract. Assumes nothing.
+-- `scan::token_of` meets its contract.
 use mathlib.Core.Path.{refl, sym, _∙_}
 use native.Mathlib.Omega.{arith}
 use Rattle.token.proofs.Reach.{reach-start}

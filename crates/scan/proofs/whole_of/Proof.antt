@@ -1,4 +1,4 @@
--- `scan::whole_of` meets its contract. Assumes nothing.
+-- `scan::whole_of` meets its contract.
 use mathlib.Core.Path.{sym, _∙_}
 use Rattle.scan.proofs.ScanLaws.{whole-end, whole-exponent, whole-point, whole-stop}
 use borrow.Author.Needs.{needs}

@@ -1,4 +1,4 @@
--- `scan::word_end` meets its contract. Assumes nothing.
+-- `scan::word_end` meets its contract.
 use mathlib.Core.Path.{sym, _∙_}
 use Prim.Native.Nat.{_+_}
 use native.Mathlib.Omega.{arith}

@@ -1,5 +1,5 @@
 use borrow.Author.Needs.{needs}
--- `scan::word_of` meets its contract. The invariant: the scan stands within a word, and the node is where its letters lead. Assumes nothing.
+-- `scan::word_of` meets its contract. The invariant: the scan stands within a word, and the node is where its letters lead.
 use Prim.Native.Nat.{_-_}
 use lib.ListN.{length}
 use Rattle.token.specs.declared.Token.the-variants as T

@@ -1,4 +1,4 @@
--- `scanner::piece_by` meets its contract. The invariant: what is first from here is what was first at the start. Assumes nothing.
+-- `scanner::piece_by` meets its contract. The invariant: what is first from here is what was first at the start.
 use mathlib.Core.Path.{_≡_, refl, sym, _∙_}
 use Prim.Native.Nat.{_≤_, _<_, _-_, _+_}
 use native.Mathlib.Omega.{arith}

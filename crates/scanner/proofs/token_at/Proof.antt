@@ -1,6 +1,5 @@
 -- `scanner::token_at` meets its contract: a walk of its MIR, by hand. A `Reader` is made in a local, lent to `Reader::next` by `&mut`, and taken back. All that the proof knows of `Reader::next` is that it meets its contract.
 -- The loan's lifetime is to end no later than the text's, so it is the meet of one that is made for the call and the text's: `lent`, `ended`. The text is Copy: what it owns is had twice, once for text at exit, and once inside the reader.
--- Assumes nothing.
 use mathlib.Core.Path.{_≡_, refl}
 use Prim.Native.Nat.{ℕ, _<_, _^_}
 use mathlib.Core.List.{List, [], _∷_}

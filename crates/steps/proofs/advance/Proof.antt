@@ -1,4 +1,4 @@
--- `steps::advance` meets its contract. Assumes nothing.
+-- `steps::advance` meets its contract.
 use borrow.Author.Needs.{needs}
 use Rattle.steps.specs.Into.{advanced}
 use Rattle.steps.proofs.advance.Statement.{statement}

@@ -1,4 +1,4 @@
--- `steps::ahead` meets its contract. Assumes nothing.
+-- `steps::ahead` meets its contract.
 use mathlib.Core.Path.{_≡_, refl}
 use mathlib.Core.Logic.{_⊎_, ⊎-elim}
 use native.Mathlib.Omega.{arith}

@@ -1,4 +1,4 @@
--- `steps::expect` meets its contract. Assumes nothing.
+-- `steps::expect` meets its contract.
 use borrow.Author.Needs.{needs}
 use borrow.Author.Tests.{eq-eqb, ne-eqb}
 use lib.ListN.{take}

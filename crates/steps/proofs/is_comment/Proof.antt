@@ -1,4 +1,4 @@
--- `steps::is_comment` meets its contract. Assumes nothing.
+-- `steps::is_comment` meets its contract.
 use borrow.Author.Tests.{eq-eqb, ne-eqb}
 use Rattle.steps.specs.Into.{isComment}
 use Rattle.steps.proofs.is_comment.Statement.{statement}

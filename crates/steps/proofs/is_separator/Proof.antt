@@ -1,4 +1,4 @@
--- `steps::is_separator` meets its contract. Assumes nothing.
+-- `steps::is_separator` meets its contract.
 use borrow.Author.Tests.{eq-eqb, ne-eqb}
 use Rattle.steps.specs.Into.{isSeparator}
 use Rattle.steps.proofs.is_separator.Statement.{statement}

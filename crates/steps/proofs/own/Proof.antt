@@ -1,4 +1,4 @@
--- `steps::own` meets its contract. The invariant: what is still to be owned here leads where all that was to be owned leads. Assumes nothing.
+-- `steps::own` meets its contract. The invariant: what is still to be owned here leads where all that was to be owned leads.
 use mathlib.Core.Path.{_≡_, refl, _∙_}
 use Prim.Native.Nat.{_≤_, _-_, _+_}
 use native.Mathlib.Omega.{arith}

@@ -1,4 +1,4 @@
--- `steps::passes` meets its contract. Assumes nothing.
+-- `steps::passes` meets its contract.
 use borrow.Author.Needs.{needs}
 use Rattle.steps.specs.Into.{passes}
 use Rattle.steps.proofs.passes.Statement.{statement}

@@ -1,4 +1,4 @@
--- `steps::refuse` meets its contract. Assumes nothing.
+-- `steps::refuse` meets its contract.
 use borrow.Author.Tests.{eq-eqb, ne-eqb}
 use Rattle.steps.specs.Into.{shows, refuseIn, refused}
 use Rattle.steps.proofs.refuse.Statement.{statement}

@@ -1,4 +1,4 @@
--- `steps::start_of` meets its contract. Assumes nothing.
+-- `steps::start_of` meets its contract.
 use borrow.Author.Tests.{eq-eqb, ne-eqb}
 use Rattle.steps.specs.Into.{startAt}
 use Rattle.steps.proofs.start_of.Statement.{statement}

@@ -1,4 +1,4 @@
--- `steps::take` meets its contract. Assumes nothing.
+-- `steps::take` meets its contract.
 use borrow.Author.Needs.{needs}
 use borrow.Author.Tests.{eq-eqb, ne-eqb}
 use Rattle.steps.specs.Into.{shows, takeIn, refuseIn}

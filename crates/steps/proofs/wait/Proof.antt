@@ -1,4 +1,4 @@
--- `steps::wait` meets its contract. Assumes nothing.
+-- `steps::wait` meets its contract.
 use mathlib.Core.Logic.{⊎-elim}
 use borrow.Author.Needs.{needs}
 use borrow.Author.Tests.{eq-eqb, ne-eqb}

@@ -1,4 +1,4 @@
--- `tokens::put_number` meets its contract. The invariant: the digits left fit the line, whose length stays. Assumes nothing.
+-- `tokens::put_number` meets its contract. The invariant: the digits left fit the line, whose length stays.
 use mathlib.Core.Path.{_≡_, refl}
 use mathlib.Core.Bool.{Bool, true, false}
 use Prim.Native.Nat.{ℕ, _^_, _≤_, _<_, _-_}

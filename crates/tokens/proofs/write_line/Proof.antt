@@ -1,4 +1,4 @@
--- `tokens::write_line` meets its contract. Assumes nothing.
+-- `tokens::write_line` meets its contract.
 use mathlib.Core.Path.{sym}
 use native.Mathlib.Omega.{arith}
 use lib.Seq.{length-take-le}

@@ -1,4 +1,4 @@
--- `tokens::write_text` meets its contract: a text that is not refused is short enough for the lexer. Assumes nothing.
+-- `tokens::write_text` meets its contract: a text that is not refused is short enough for the lexer.
 use mathlib.Core.Path.{refl}
 use Rattle.token.specs.Tables.{classes, trie}
 use Rattle.lexer.proofs.CheckLaws.{fine-fits, told-fine}

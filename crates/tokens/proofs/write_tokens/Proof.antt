@@ -1,4 +1,4 @@
--- `tokens::write_tokens` meets its contract. The invariant: the lexer may stand where it does; each token leads it further into the text. Assumes nothing.
+-- `tokens::write_tokens` meets its contract. The invariant: the lexer may stand where it does; each token leads it further into the text.
 use mathlib.Core.Path.{_≡_, sym, _∙_}
 use Prim.Native.Nat.{_-_}
 use native.Mathlib.Omega.{arith}

@@ -1,4 +1,4 @@
--- `utf8::has_tails` meets its contract. The invariant: what is left to see is whether `left` tail bytes stand at `i`. Assumes nothing.
+-- `utf8::has_tails` meets its contract. The invariant: what is left to see is whether `left` tail bytes stand at `i`.
 use mathlib.Core.Path.{_≡_, refl, sym, _∙_}
 use mathlib.Core.Bool.{_&&_}
 use Prim.Native.Nat.{_≤_, _-_, _+_}

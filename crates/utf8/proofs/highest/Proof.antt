@@ -19,9 +19,10 @@ loop-holds c = (omega arith, λ j h. absurd (omega arith))
 
 loop-again : tie.Need-loop-again Inv-loop μ-loop
 loop-again c =
-    let inv = c .before .before .before .loop .inv .1 in
-    (search needs,
-    ⊎-elim (λ w. below-more _ _ (λ j h. omega (arith, inv j h)) (omega arith)) (λ w. below-more _ _ (λ j h. omega (arith, inv j h)) (omega arith)) (c .if1 .came))
+    let inv = c .before .before .before .loop .inv .1 in (
+      search needs,
+      ⊎-elim (λ w. below-more _ _ (λ j h. omega (arith, inv j h)) (omega arith)) (λ w. below-more _ _ (λ j h. omega (arith, inv j h)) (omega arith)) (c .if1 .came),
+    )
 
 returns : tie.Need-returns Inv-loop μ-loop
 returns c = λ i h. c .before .loop .inv .1 i (omega arith)

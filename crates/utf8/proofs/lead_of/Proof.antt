@@ -1,4 +1,4 @@
--- `utf8::lead_of` meets its contract: each arm is a row of `sequences`, the last one the bytes that are in none. Assumes nothing.
+-- `utf8::lead_of` meets its contract: each arm is a row of `sequences`, the last one the bytes that are in none.
 use mathlib.Core.Path.{_≡_, refl, _∙_}
 use mathlib.Core.List.{[], _∷_}
 use Prim.Native.Nat.{ℕ, _≤_}

@@ -1,4 +1,4 @@
--- `utf8::width_at` meets its contract: the first byte says which bytes have to follow, and they are looked at one after the other. Assumes nothing.
+-- `utf8::width_at` meets its contract: the first byte says which bytes have to follow, and they are looked at one after the other.
 use mathlib.Core.Path.{_≡_, sym, _∙_}
 use mathlib.Core.Bool.{cond, _&&_}
 use mathlib.Core.List.{_∷_}

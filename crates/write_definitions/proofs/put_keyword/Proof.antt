@@ -1,4 +1,4 @@
--- `write_definitions::put_keyword` meets its contract. Assumes nothing.
+-- `write_definitions::put_keyword` meets its contract.
 use Rattle.cursor.proofs.Chain.{last, yes, no}
 use Rattle.write_definitions.proofs.Shapes.{keyword-is}
 use borrow.Author.Needs.{needs}

@@ -1,4 +1,4 @@
--- `write_definitions::write_block` meets its contract. Assumes nothing.
+-- `write_definitions::write_block` meets its contract.
 use Rattle.cursor.proofs.Chain.{kept, last, yes, no}
 use Rattle.write_definitions.proofs.Shapes.{block-is}
 use borrow.Author.Needs.{needs}

@@ -1,4 +1,4 @@
--- `write_definitions::write_body` meets its contract. Assumes nothing.
+-- `write_definitions::write_body` meets its contract.
 use Rattle.cursor.proofs.Chain.{kept, last}
 use Rattle.write_definitions.proofs.Shapes.{body-is}
 use borrow.Author.Needs.{needs}

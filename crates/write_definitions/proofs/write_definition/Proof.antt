@@ -1,4 +1,4 @@
--- `write_definitions::write_definition` meets its contract. Assumes nothing.
+-- `write_definitions::write_definition` meets its contract.
 use Rattle.cursor.proofs.Chain.{kept, last, less, more}
 use Rattle.write_definitions.proofs.Shapes.{definition-is}
 use borrow.Author.Needs.{needs}

@@ -1,4 +1,4 @@
--- `write_definitions::write_extends` meets its contract. Assumes nothing.
+-- `write_definitions::write_extends` meets its contract.
 use Rattle.cursor.proofs.Chain.{kept, last, ends, yes, no, about}
 use Rattle.write_definitions.proofs.Shapes.{extends-is}
 use borrow.Author.Needs.{needs}

@@ -1,4 +1,4 @@
--- `write_definitions::write_line` meets its contract. Assumes nothing.
+-- `write_definitions::write_line` meets its contract.
 use Rattle.cursor.proofs.Chain.{kept, last, yes, no, less, more}
 use Rattle.write_definitions.proofs.Shapes.{line-is}
 use borrow.Author.Needs.{needs}

@@ -1,4 +1,4 @@
--- `write_definitions::write_member` meets its contract. Assumes nothing.
+-- `write_definitions::write_member` meets its contract.
 use mathlib.Core.Path.{_∙_}
 use Rattle.cursor.proofs.Chain.{kept, last}
 use Rattle.write_definitions.proofs.Shapes.{member-is}

@@ -1,4 +1,4 @@
--- `write_definitions::write_members` meets its contract. Assumes nothing.
+-- `write_definitions::write_members` meets its contract.
 use mathlib.Core.Path.{_∙_}
 use native.Mathlib.Omega.{arith}
 use Rattle.cursor.proofs.Chain.{kept, ends, yes, no, about}

@@ -1,4 +1,4 @@
--- `write_definitions::write_namespace` meets its contract. Assumes nothing.
+-- `write_definitions::write_namespace` meets its contract.
 use Rattle.cursor.proofs.Chain.{kept, last}
 use Rattle.write_definitions.proofs.Shapes.{namespace-is}
 use borrow.Author.Needs.{needs}

@@ -1,4 +1,4 @@
--- `write_definitions::write_one` meets its contract. Assumes nothing.
+-- `write_definitions::write_one` meets its contract.
 use Rattle.cursor.proofs.Chain.{last, yes, no}
 use Rattle.write_definitions.proofs.Shapes.{one-is}
 use borrow.Author.Needs.{needs}

@@ -1,4 +1,4 @@
--- `write_definitions::write_oneway` meets its contract. Assumes nothing.
+-- `write_definitions::write_oneway` meets its contract.
 use Rattle.cursor.proofs.Chain.{last, ends, yes, no}
 use Rattle.write_definitions.proofs.Shapes.{oneway-is}
 use borrow.Author.Needs.{needs}

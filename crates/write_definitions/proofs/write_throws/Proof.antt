@@ -1,4 +1,4 @@
--- `write_definitions::write_throws` meets its contract. Assumes nothing.
+-- `write_definitions::write_throws` meets its contract.
 use Rattle.cursor.proofs.Chain.{kept, last, ends, less, more}
 use Rattle.write_definitions.proofs.Shapes.{throws-is}
 use borrow.Author.Needs.{needs}

@@ -1,5 +1,5 @@
 -- `write_type` and the two functions that it writes containers with meet their contracts: each is its calls, one after another.
--- The measure is twice the containers left, one more for those two. Assumes nothing.
+-- The measure is twice the containers left, one more for those two.
 use mathlib.Core.Path.{refl, _∙_}
 use native.Mathlib.Omega.{arith}
 use Rattle.cursor.proofs.Chain.{kept, last, yes, no}

@@ -1,6 +1,5 @@
 -- `write_value` and the five functions that it writes containers with meet their contracts: each is its calls, one after another.
 -- The measure is four times the containers left, and the place in the cycle. A loop's invariant: the whole is what the turns left write from here.
--- Assumes nothing.
 use mathlib.Core.Path.{refl, _∙_}
 use native.Mathlib.Omega.{arith}
 use Rattle.cursor.proofs.Chain.{kept, last, ends, yes, no, about}

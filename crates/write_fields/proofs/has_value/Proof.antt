@@ -1,4 +1,4 @@
--- `write_fields::has_value` meets its contract. Assumes nothing.
+-- `write_fields::has_value` meets its contract.
 use Rattle.write_fields.proofs.Shapes.{no-value, value-unless}
 use borrow.Author.Needs.{needs}
 use Rattle.write_fields.proofs.has_value.Statement.{statement}

@@ -1,4 +1,4 @@
--- `write_fields::is_of` meets its contract. Assumes nothing.
+-- `write_fields::is_of` meets its contract.
 use Rattle.write_fields.proofs.Shapes.{is-of-less, is-of-more}
 use Rattle.write_fields.proofs.is_of.Statement.{statement}
 use Rattle.write_fields.proofs.is_of.Tie as tie

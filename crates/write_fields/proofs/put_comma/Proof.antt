@@ -1,4 +1,4 @@
--- `write_fields::put_comma` meets its contract. Assumes nothing.
+-- `write_fields::put_comma` meets its contract.
 use mathlib.Core.Path.{refl}
 use Rattle.cursor.proofs.Chain.{last, ends, yes-by, no-by}
 use Rattle.write_fields.proofs.Shapes.{comma-is}

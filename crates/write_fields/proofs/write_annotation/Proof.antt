@@ -1,4 +1,4 @@
--- `write_fields::write_annotation` meets its contract. Assumes nothing.
+-- `write_fields::write_annotation` meets its contract.
 use Rattle.cursor.proofs.Chain.{kept, last}
 use Rattle.write_fields.proofs.Shapes.{annotation-is}
 use borrow.Author.Needs.{needs}

@@ -1,4 +1,4 @@
--- `write_fields::write_annotations` meets its contract. Assumes nothing.
+-- `write_fields::write_annotations` meets its contract.
 use Rattle.cursor.proofs.Chain.{kept, last, ends, yes, no, about}
 use Rattle.write_fields.proofs.Shapes.{annotations-is}
 use borrow.Author.Needs.{needs}

@@ -1,4 +1,4 @@
--- `write_fields::write_default` meets its contract. Assumes nothing.
+-- `write_fields::write_default` meets its contract.
 use borrow.Author.Tests.{not-true, not-false}
 use Rattle.cursor.proofs.Chain.{kept, last, ends, yes-by, no-by}
 use Rattle.write_fields.proofs.Shapes.{assigned-is}

@@ -1,4 +1,4 @@
--- `write_fields::write_field` meets its contract. Assumes nothing.
+-- `write_fields::write_field` meets its contract.
 use mathlib.Core.Path.{_∙_}
 use Rattle.cursor.proofs.Chain.{kept, last}
 use Rattle.write_fields.proofs.Shapes.{field-is}

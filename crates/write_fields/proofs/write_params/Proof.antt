@@ -1,4 +1,4 @@
--- `write_fields::write_params` meets its contract. Assumes nothing.
+-- `write_fields::write_params` meets its contract.
 use mathlib.Core.Path.{ap, _∙_}
 use borrow.Author.Tests.{not-true, not-false}
 use native.Mathlib.Omega.{arith}

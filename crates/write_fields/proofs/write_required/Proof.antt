@@ -1,4 +1,4 @@
--- `write_fields::write_required` meets its contract. Assumes nothing.
+-- `write_fields::write_required` meets its contract.
 use Rattle.cursor.proofs.Chain.{last, ends, yes, no}
 use Rattle.write_fields.proofs.Shapes.{required-is}
 use borrow.Author.Needs.{needs}

@@ -1,4 +1,4 @@
--- `lexer::location::behind` meets its contract. Assumes nothing.
+-- `lexer::location::behind` meets its contract.
 use native.Mathlib.Omega.{arith}
 use borrow.Author.Needs.{needs}
 use Rattle.lexer.specs.Location.{behind}

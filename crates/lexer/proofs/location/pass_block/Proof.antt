@@ -1,4 +1,4 @@
--- `lexer::location::pass_block` meets its contract. The invariant: the lexer stands behind the bytes passed. Assumes nothing.
+-- `lexer::location::pass_block` meets its contract. The invariant: the lexer stands behind the bytes passed.
 use mathlib.Core.Path.{_≡_, refl, sym, ap, _∙_}
 use mathlib.Core.Bool.{Bool}
 use Prim.Native.Nat.{_≤_, _-_, _+_}

@@ -1,4 +1,4 @@
--- `lexer::location::pass_lexeme` meets its contract. Assumes nothing.
+-- `lexer::location::pass_lexeme` meets its contract.
 use mathlib.Core.Path.{sym, _∙_}
 use native.Mathlib.Omega.{arith}
 use borrow.Author.Needs.{needs}

@@ -1,4 +1,4 @@
--- `parse_fields::annotations::parse_annotation` meets its contract. Assumes nothing.
+-- `parse_fields::annotations::parse_annotation` meets its contract.
 use mathlib.Core.Path.{_∙_}
 use Rattle.steps.proofs.Chain.{ends-at, given, kept, no-by, noted, off, on, ret, yes-by}
 use Rattle.parse_fields.proofs.Forms.{annotation-is, one-separator-is}

@@ -1,4 +1,4 @@
--- `parse_fields::annotations::parse_annotations` meets its contract. Assumes nothing.
+-- `parse_fields::annotations::parse_annotations` meets its contract.
 use mathlib.Core.Path.{ap, _∙_}
 use Rattle.steps.proofs.Chain.{given, no, node, off, on, ret, yes}
 use Rattle.parse_fields.proofs.Forms.{annotations-is}

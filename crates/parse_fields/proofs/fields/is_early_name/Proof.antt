@@ -1,4 +1,4 @@
--- `parse_fields::fields::is_early_name` meets its contract. Assumes nothing.
+-- `parse_fields::fields::is_early_name` meets its contract.
 use borrow.Author.Tests.{eq-eqb, ne-eqb}
 use Rattle.parse_fields.specs.Into.{isEarlyName}
 use Rattle.parse_fields.proofs.fields.is_early_name.Statement.{statement}

@@ -1,4 +1,4 @@
--- `parse_fields::fields::is_field_name` meets its contract. Assumes nothing.
+-- `parse_fields::fields::is_field_name` meets its contract.
 use borrow.Author.Needs.{needs}
 use borrow.Author.Tests.{lt-ltb, le-ltb, le-leb, lt-leb}
 use Rattle.parse_fields.specs.Into.{isFieldName}

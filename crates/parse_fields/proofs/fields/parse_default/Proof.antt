@@ -1,4 +1,4 @@
--- `parse_fields::fields::parse_default` meets its contract. Assumes nothing.
+-- `parse_fields::fields::parse_default` meets its contract.
 use Rattle.steps.proofs.Chain.{given, last, no, ret, yes}
 use Rattle.parse_fields.proofs.Forms.{default-is}
 use Rattle.parse_values.specs.Into.{valueIn}

@@ -1,4 +1,4 @@
--- `parse_fields::fields::parse_field` meets its contract. Assumes nothing.
+-- `parse_fields::fields::parse_field` meets its contract.
 use mathlib.Core.Path.{refl, ap₂, _∙_}
 use Rattle.steps.proofs.Chain.{given, kept, node-by, off, on}
 use Rattle.parse_fields.proofs.Forms.{field-is}

@@ -1,4 +1,4 @@
--- `parse_fields::fields::parse_field_id` meets its contract. Assumes nothing.
+-- `parse_fields::fields::parse_field_id` meets its contract.
 use borrow.Author.Tests.{not-true, not-false}
 use Rattle.steps.proofs.Chain.{fails, kept, last, no, no-by, off, on, ret, yes, yes-by}
 use Rattle.parse_fields.proofs.Forms.{field-id-is}

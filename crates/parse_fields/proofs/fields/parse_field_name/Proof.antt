@@ -1,4 +1,4 @@
--- `parse_fields::fields::parse_field_name` meets its contract. Assumes nothing.
+-- `parse_fields::fields::parse_field_name` meets its contract.
 use borrow.Author.Tests.{not-true, not-false}
 use Rattle.steps.proofs.Chain.{ends, fails, given, no-by, yes-by}
 use Rattle.parse_fields.proofs.Forms.{field-name-is}

@@ -1,4 +1,4 @@
--- `parse_fields::fields::parse_field_tail` meets its contract. Assumes nothing.
+-- `parse_fields::fields::parse_field_tail` meets its contract.
 use mathlib.Core.Path.{_∙_}
 use Rattle.steps.proofs.Chain.{last, off, on}
 use Rattle.parse_fields.proofs.Forms.{field-tail-is}

@@ -1,4 +1,4 @@
--- `parse_fields::fields::required_flag` meets its contract. Assumes nothing.
+-- `parse_fields::fields::required_flag` meets its contract.
 use borrow.Author.Tests.{eq-eqb, ne-eqb}
 use Rattle.parse_fields.specs.Into.{requiredOf}
 use Rattle.parse_fields.proofs.fields.required_flag.Statement.{statement}

@@ -1,4 +1,4 @@
--- `parse_fields::fields::skip_required` meets its contract. Assumes nothing.
+-- `parse_fields::fields::skip_required` meets its contract.
 use borrow.Author.Needs.{needs}
 use borrow.Author.Tests.{eq-eqb, ne-eqb}
 use Rattle.parse_fields.specs.Into.{skipRequired}

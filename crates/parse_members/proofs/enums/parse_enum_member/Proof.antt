@@ -1,4 +1,4 @@
--- `parse_members::enums::parse_enum_member` meets its contract. Assumes nothing.
+-- `parse_members::enums::parse_enum_member` meets its contract.
 use mathlib.Core.Path.{_∙_}
 use Rattle.steps.proofs.Chain.{given, kept, node, off, on}
 use Rattle.parse_members.proofs.Forms.{member-is}

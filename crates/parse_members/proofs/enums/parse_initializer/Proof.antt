@@ -1,4 +1,4 @@
--- `parse_members::enums::parse_initializer` meets its contract. Assumes nothing.
+-- `parse_members::enums::parse_initializer` meets its contract.
 use mathlib.Core.Path.{sym, ap, _∙_}
 use Rattle.steps.specs.declared.state.State.{State}
 use Rattle.steps.proofs.Chain.{given, last, no, ret, yes}

@@ -1,4 +1,4 @@
--- `parse_members::functions::flag_if` meets its contract. Assumes nothing.
+-- `parse_members::functions::flag_if` meets its contract.
 use borrow.Author.Tests.{eq-eqb, ne-eqb}
 use Rattle.parse_members.specs.Into.{flagIf}
 use Rattle.parse_members.proofs.functions.flag_if.Statement.{statement}

@@ -1,4 +1,4 @@
--- `parse_members::functions::parse_function` meets its contract. Assumes nothing.
+-- `parse_members::functions::parse_function` meets its contract.
 use mathlib.Core.Path.{refl, ap₂, _∙_}
 use Rattle.steps.proofs.Chain.{given, kept, node-by, off, on}
 use Rattle.parse_members.proofs.Forms.{function-is}

@@ -1,4 +1,4 @@
--- `parse_members::functions::parse_function_head` meets its contract. Assumes nothing.
+-- `parse_members::functions::parse_function_head` meets its contract.
 use mathlib.Core.Path.{_∙_}
 use Rattle.steps.proofs.Chain.{given, last, off, on}
 use Rattle.parse_members.proofs.Forms.{function-head-is}

@@ -1,4 +1,4 @@
--- `parse_members::functions::parse_return_type` meets its contract. Assumes nothing.
+-- `parse_members::functions::parse_return_type` meets its contract.
 use Rattle.steps.proofs.Chain.{ends, given, last, no, yes}
 use Rattle.parse_members.proofs.Forms.{return-type-is}
 use Rattle.steps.specs.Into.{leafIn}

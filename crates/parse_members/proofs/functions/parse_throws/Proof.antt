@@ -1,4 +1,4 @@
--- `parse_members::functions::parse_throws` meets its contract. Assumes nothing.
+-- `parse_members::functions::parse_throws` meets its contract.
 use Rattle.steps.proofs.Chain.{given, last, no, ret, yes}
 use Rattle.parse_members.proofs.Forms.{throws-is}
 use Rattle.parse_fields.specs.Into.{fieldsIn}

@@ -1,4 +1,4 @@
--- `parse_members::functions::skip_oneway` meets its contract. Assumes nothing.
+-- `parse_members::functions::skip_oneway` meets its contract.
 use borrow.Author.Needs.{needs}
 use borrow.Author.Tests.{eq-eqb, ne-eqb}
 use Rattle.parse_members.specs.Into.{skipOneway}

@@ -1,5 +1,5 @@
 -- `parse_type`, `parse_complex_type` and `parse_contained` meet their contracts: each is its calls, one after another.
--- The measure is three times the containers left, and the place in the cycle. Assumes nothing.
+-- The measure is three times the containers left, and the place in the cycle.
 use mathlib.Core.Path.{refl}
 use Prim.Native.Nat.{ℕ, _<_, _*_, _+_}
 use borrow.Author.Needs.{needs}

@@ -1,4 +1,4 @@
--- `parse_values::types::container_type` meets its contract. Assumes nothing.
+-- `parse_values::types::container_type` meets its contract.
 use borrow.Author.Tests.{eq-eqb, ne-eqb}
 use Rattle.parse_values.specs.Into.{containerType}
 use Rattle.parse_values.proofs.types.container_type.Statement.{statement}

@@ -1,4 +1,4 @@
--- `parse_values::types::leaf_type` meets its contract. Assumes nothing.
+-- `parse_values::types::leaf_type` meets its contract.
 use borrow.Author.Tests.{eq-eqb, ne-eqb, lt-ltb, le-ltb, le-leb, lt-leb}
 use Rattle.parse_values.specs.Into.{leafType}
 use Rattle.parse_values.proofs.types.leaf_type.Statement.{statement}

@@ -1,4 +1,4 @@
--- `parse_values::values::is_opener` meets its contract. Assumes nothing.
+-- `parse_values::values::is_opener` meets its contract.
 use borrow.Author.Tests.{eq-eqb, ne-eqb}
 use Rattle.parse_values.specs.Into.{isOpener}
 use Rattle.parse_values.proofs.values.is_opener.Statement.{statement}

@@ -1,4 +1,4 @@
--- `parse_values::values::leaf_value` meets its contract. Assumes nothing.
+-- `parse_values::values::leaf_value` meets its contract.
 use borrow.Author.Tests.{eq-eqb, ne-eqb}
 use Rattle.parse_values.specs.Into.{leafValue}
 use Rattle.parse_values.proofs.values.leaf_value.Statement.{statement}

@@ -1,4 +1,4 @@
--- `scan::words::child` meets its contract. Assumes nothing.
+-- `scan::words::child` meets its contract.
 use mathlib.Core.Path.{sym}
 use Prim.Native.Nat.{_<_}
 use native.Mathlib.Omega.{arith}

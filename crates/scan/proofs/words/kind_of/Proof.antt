@@ -1,4 +1,4 @@
--- `scan::words::kind_of` meets its contract: each arm is the node that spells its word. Assumes nothing.
+-- `scan::words::kind_of` meets its contract: each arm is the node that spells its word.
 use mathlib.Core.Path.{sym, ap}
 use borrow.Author.Needs.{needs}
 use borrow.Author.Tests.{ne-eqb}

@@ -1,6 +1,5 @@
 -- `scanner::Reader::next` meets its contract: a walk of its MIR, by hand. The borrow is opened, `piece_at` is called on the text and the offset that the reader holds, the piece's end is stored in the offset, and the borrow is closed at the reader behind the piece.
 -- The reader is Copy: what it owns is had twice, one copy goes to the callee, beside the lifetime's token, which comes back, and of the other the facts of the offset are made anew: `again`. All that the proof knows of `piece_at` is that it meets its contract.
--- Assumes nothing.
 use mathlib.Core.Path.{_≡_, refl, ap}
 use Prim.Native.Nat.{ℕ, _<_, _^_}
 use mathlib.Core.List.{List, [], _∷_}

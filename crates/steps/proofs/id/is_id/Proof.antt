@@ -1,4 +1,4 @@
--- `steps::id::is_id` meets its contract. Assumes nothing.
+-- `steps::id::is_id` meets its contract.
 use mathlib.Core.Path.{_∙_}
 use borrow.Author.Needs.{needs}
 use Rattle.steps.proofs.Digits.{id-none, id-minus, id-plus, id-plain}

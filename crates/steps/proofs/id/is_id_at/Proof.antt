@@ -1,4 +1,4 @@
--- `steps::id::is_id_at` meets its contract. Assumes nothing.
+-- `steps::id::is_id_at` meets its contract.
 use borrow.Author.Needs.{needs}
 use borrow.Author.Tests.{lt-ltb, le-ltb}
 use Rattle.steps.specs.Into.{isIdAt}

@@ -1,4 +1,4 @@
--- `steps::id::is_number` meets its contract. The invariant: the value so far and the digits from `i` on make the number. Assumes nothing.
+-- `steps::id::is_number` meets its contract. The invariant: the value so far and the digits from `i` on make the number.
 use mathlib.Core.Path.{_≡_, refl, sym, _∙_}
 use Prim.Native.Nat.{_≤_, _<_, _-_, _^_}
 use native.Mathlib.Omega.{arith}

@@ -1,4 +1,4 @@
--- `steps::table::bump` meets its contract. Assumes nothing.
+-- `steps::table::bump` meets its contract.
 use borrow.Author.Needs.{needs}
 use borrow.Author.Tests.{lt-ltb, le-ltb}
 use Rattle.steps.specs.Into.{bump, largest}

@@ -1,4 +1,4 @@
--- `steps::table::open` meets its contract. Assumes nothing.
+-- `steps::table::open` meets its contract.
 use borrow.Author.Needs.{needs}
 use Rattle.steps.specs.Into.{opened}
 use Rattle.steps.proofs.table.open.Statement.{statement}

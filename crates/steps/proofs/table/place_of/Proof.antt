@@ -1,4 +1,4 @@
--- `steps::table::place_of` meets its contract. Assumes nothing.
+-- `steps::table::place_of` meets its contract.
 use native.Mathlib.Omega.{arith}
 use borrow.Author.Needs.{needs}
 use Rattle.steps.specs.Into.{placeOf}

@@ -1,4 +1,4 @@
--- `steps::table::put_leaf` meets its contract. Assumes nothing.
+-- `steps::table::put_leaf` meets its contract.
 use borrow.Author.Needs.{needs}
 use Rattle.steps.specs.Into.{leafIn}
 use Rattle.steps.proofs.table.put_leaf.Statement.{statement}

@@ -1,4 +1,4 @@
--- `steps::table::put_node` meets its contract. Assumes nothing.
+-- `steps::table::put_node` meets its contract.
 use borrow.Author.Needs.{needs}
 use Rattle.steps.specs.Into.{putNode}
 use Rattle.steps.proofs.table.put_node.Statement.{statement}

@@ -1,4 +1,4 @@
--- `steps::table::put_parent` meets its contract. Assumes nothing.
+-- `steps::table::put_parent` meets its contract.
 use borrow.Author.Needs.{needs}
 use Rattle.steps.proofs.Cells.{parent-off, parent-on}
 use Rattle.steps.proofs.table.put_parent.Statement.{statement}

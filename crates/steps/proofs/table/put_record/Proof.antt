@@ -1,4 +1,4 @@
--- `steps::table::put_record` meets its contract. Assumes nothing.
+-- `steps::table::put_record` meets its contract.
 use native.Mathlib.Omega.{arith}
 use borrow.Author.Needs.{needs}
 use lib.ListN.{length-set}

@@ -1,4 +1,4 @@
--- `steps::table::sum` meets its contract. Assumes nothing.
+-- `steps::table::sum` meets its contract.
 use borrow.Author.Needs.{needs}
 use borrow.Author.Tests.{le-leb, lt-leb}
 use Rattle.steps.specs.Into.{sum, largest}

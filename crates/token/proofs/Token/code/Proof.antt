@@ -1,4 +1,4 @@
--- `token::Token::code` meets its contract: each arm is one clause of `code`. Assumes nothing.
+-- `token::Token::code` meets its contract: each arm is one clause of `code`.
 use mathlib.Core.Path.{sym, ap}
 use borrow.Author.Needs.{needs}
 use Rattle.token.specs.Code.{code}

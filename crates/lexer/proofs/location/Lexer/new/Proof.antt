@@ -1,4 +1,4 @@
--- `lexer::location::Lexer::new` meets its contract. Assumes nothing.
+-- `lexer::location::Lexer::new` meets its contract.
 use mathlib.Core.Path.{refl}
 use Rattle.lexer.specs.Location.{opening}
 use Rattle.lexer.proofs.location.Lexer.new.Statement.{statement}

@@ -1,4 +1,4 @@
--- `lexer::location::Lexer::span` meets its contract. Assumes nothing.
+-- `lexer::location::Lexer::span` meets its contract.
 use mathlib.Core.Path.{refl}
 use Rattle.lexer.specs.Location.{spanOf}
 use borrow.Author.Needs.{needs}

@@ -1,4 +1,4 @@
--- `lexer::location::Lexer::until` meets its contract. Assumes nothing.
+-- `lexer::location::Lexer::until` meets its contract.
 use Rattle.lexer.specs.Location.{between}
 use borrow.Author.Needs.{needs}
 use Rattle.lexer.proofs.location.Lexer.until.Statement.{statement}
