@@ -34,6 +34,7 @@ use Rattle.steps.proofs.Bytes.{
 }
 use Rattle.steps.proofs.LoopForms.{loop-rests}
 use Rattle.parse_values.proofs.Bytes.{type-falls, value-falls}
+use Rattle.parser.specs.Definitions.{nesting}
 use Rattle.parse_fields.specs.Into.{
   tokenIn,
   nameIn,
@@ -47,7 +48,6 @@ use Rattle.parse_fields.specs.Into.{
   isEarlyName,
   isFieldName,
   fieldNameIn,
-  nesting,
   defaultIn,
   fieldHeadIn,
   fieldTailIn,

@@ -552,18 +552,35 @@ fn must_stay(case: Case, steps: Steps) -> bool {
     if case.numbered { 0 < steps.kept } else { false }
 }
 
-// Makes the calls of a text in two spaces and into two outputs, by `file::run` and one by one, and compares.
+// Whether two pairs of tables and two outputs are the same.
+fn same_lent(
+    nodes: &[u32],
+    other_nodes: &[u32],
+    comments: &[u32],
+    other_comments: &[u32],
+    out: &[u8],
+    other_out: &[u8],
+) -> bool {
+    if !same_numbers(nodes, other_nodes) {
+        return false;
+    }
+    if !same_numbers(comments, other_comments) {
+        return false;
+    }
+    same_bytes(out, other_out)
+}
+
+// Makes the calls of a text in two spaces, by `file::run` and one by one, and compares.
 fn compare_in(
     space: &mut [u8],
     spare: &mut [u8],
-    out: &mut [u8],
-    spare_out: &mut [u8],
     text: &[u8],
     number: u32,
     requests: &[u32],
 ) -> Steps {
     let mut nodes: [u32; 9005] = [7; 9005];
     let mut comments: [u32; 1804] = [7; 1804];
+    let mut out: [u8; SPACE] = [7; SPACE];
     let length = run_calls(
         space,
         text,
@@ -571,10 +588,11 @@ fn compare_in(
         requests,
         &mut nodes,
         &mut comments,
-        out,
+        &mut out,
     );
     let mut spare_nodes: [u32; 9005] = [7; 9005];
     let mut spare_comments: [u32; 1804] = [7; 1804];
+    let mut spare_out: [u8; SPACE] = [7; SPACE];
     let steps = make_calls(
         spare,
         text,
@@ -582,29 +600,33 @@ fn compare_in(
         requests,
         &mut spare_nodes,
         &mut spare_comments,
-        spare_out,
+        &mut spare_out,
+    );
+    let same = same_lent(
+        &nodes,
+        &spare_nodes,
+        &comments,
+        &spare_comments,
+        &out,
+        &spare_out,
     );
     steps
+        .compared(same)
         .compared(length == steps.length)
         .compared(same_bytes(space, spare))
-        .compared(same_bytes(out, spare_out))
-        .compared(same_numbers(&nodes, &spare_nodes))
-        .compared(same_numbers(&comments, &spare_comments))
 }
 
 // Makes the calls of a text, compares, and makes them again if the file must stay.
 fn compare_parts(
     space: &mut [u8],
     spare: &mut [u8],
-    out: &mut [u8],
-    spare_out: &mut [u8],
     text: &[u8],
     case: Case,
     tally: Tally,
 ) -> Tally {
     let number = case.number;
     let requests = requests_for(needs_of(text, number % 10));
-    let steps = compare_in(space, spare, out, spare_out, text, number, &requests);
+    let steps = compare_in(space, spare, text, number, &requests);
     let now = tally.called(steps);
     if must_stay(case, steps) {
         return now.stayed(stays(space, spare, steps.length, number, &requests));
@@ -616,19 +638,8 @@ fn compare_parts(
 fn compare_text(text: &[u8], case: Case, tally: Tally) -> Tally {
     let mut space: [u8; SPACE] = [7; SPACE];
     let mut spare: [u8; SPACE] = [7; SPACE];
-    let mut out: [u8; SPACE] = [7; SPACE];
-    let mut spare_out: [u8; SPACE] = [7; SPACE];
     let room = room_of(case.number, text.len());
-    let lent = room_of(2, text.len());
-    compare_parts(
-        &mut space[..room],
-        &mut spare[..room],
-        &mut out[..lent],
-        &mut spare_out[..lent],
-        text,
-        case,
-        tally,
-    )
+    compare_parts(&mut space[..room], &mut spare[..room], text, case, tally)
 }
 
 // Makes the calls of the next text of the list.

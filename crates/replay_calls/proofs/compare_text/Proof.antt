@@ -12,25 +12,14 @@ slice-aggregate-compare-parts c = sym (length-take-le _ _ (omega arith))
 slice-aggregate-compare-parts-2 : tie.Need-slice-aggregate-compare-parts-2
 slice-aggregate-compare-parts-2 c = sym (length-take-le _ _ (omega arith))
 
-slice-aggregate-compare-parts-3 : tie.Need-slice-aggregate-compare-parts-3
-slice-aggregate-compare-parts-3 c = sym (length-take-le _ _ (omega arith))
-
-slice-aggregate-compare-parts-4 : tie.Need-slice-aggregate-compare-parts-4
-slice-aggregate-compare-parts-4 c = sym (length-take-le _ _ (omega arith))
-
 pub compare-text-spec : {M : Type 1} → statement M
 compare-text-spec =
     tie.close
     (tie.spec
     (λ c κs. search needs)
-    (λ c κs. search needs)
     (λ c. search needs)
     slice-aggregate-compare-parts
     (λ c. search needs)
     slice-aggregate-compare-parts-2
-    (λ c. search needs)
-    slice-aggregate-compare-parts-3
-    (λ c. search needs)
-    slice-aggregate-compare-parts-4
     (λ c κs. search needs)
     (λ c. search needs))
