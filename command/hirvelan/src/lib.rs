@@ -113,7 +113,7 @@ pub fn place(text: &[u8], offset: u32) -> Place {
 
 /// Makes readings and printings of one file, one after another, with so many spaces a level; the length of the file afterwards.
 /// The file is the first `file` bytes of its space, all of it if `file` is more. An accepted printing makes the bytes it wrote the file, with zeros behind them, if the space holds them.
-/// No list of requests alters a file once printed, whose fields are numbered and whose print has at most `LONGEST` bytes.
+/// No list of requests at one indent alters a file once printed at it, if its fields are numbered and its print has at most `LONGEST` bytes.
 pub fn run(space: &mut [u8], file: usize, indent: u32, requests: &[Request], nodes: &mut [u32], comments: &mut [u32], out: &mut [u8]) -> usize {
     let numbers: Vec<u32> = requests.iter().flat_map(|r| [u32::from(r.prints), r.nodes, r.comments, r.out]).collect();
     raw::run(space, file, indent, &numbers, nodes, comments, out)
