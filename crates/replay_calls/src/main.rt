@@ -1,18 +1,20 @@
-// Makes a list of readings and printings of each text of the list on standard input, by `file::run` and one by one, and compares the file, its space and all that was lent.
+// Makes lists of readings and printings of each text of the list on standard input, by `file::run` and one by one, and compares the file, its space and all that was lent.
+// The lists of a text are the first call, the first two, and so on, so that what each call leaves is seen.
 //
 // The list is that of replay_nodes, whose src/main.rt says what it holds. Space, tables and output are full of sevens at first.
-// Then it makes the list of calls again: a file once printed, whose fields are numbered, must stay.
+// Then it makes each list again: a file once printed, whose fields are numbered, must stay.
 use libc::STDIN_FILENO;
 use libc::STDOUT_FILENO;
 use writer::Printed;
-ghost use Prim.Native.Nat.{_≤_, _<_};
+ghost use Prim.Native.Nat.{_+_, _≤_};
+ghost use lib.ListN.{length};
 ghost use Rattle.io.specs.Counts.{Counts};
 
 // Longer than each text and each print of the list.
 const SPACE: usize = 66560;
 
 // How many requests are made of a text.
-const CALLS: u32 = 12;
+const CALLS: usize = 12;
 
 // More than is there.
 const ALL: u32 = 4294967295;
@@ -260,7 +262,7 @@ fn requests_for(needs: Needs) -> [u32; 48] {
 
 // The request whose four numbers start at an index.
 fn request_at(requests: &[u32], i: usize) -> Request
-    requires { ⌜ i < 1000 ⌝ }
+    requires { ⌜ i + 4 ≤ length (now requests) ⌝ }
 {
     Request {
         kind: number_at(requests, i),
@@ -368,7 +370,7 @@ fn make_call(
 }
 
 // The calls of a list of requests, one by one.
-fn make_all(
+fn make_calls(
     space: &mut [u8],
     length: usize,
     indent: u32,
@@ -384,18 +386,22 @@ fn make_all(
         kept: 0,
         same: true,
     };
-    for k in 0..CALLS {
-        let request = request_at(requests, k as usize * 4);
+    for k in 0..requests.len() / 4 {
+        let request = request_at(requests, k * 4);
         steps = make_call(space, steps, indent, request, nodes, comments, out);
     }
     steps
 }
 
-// Copies a text to the front of a space.
+// A byte of a text; 7 behind it.
+fn text_byte(text: &[u8], k: usize) -> u8 {
+    if k < text.len() { text[k] } else { 7 }
+}
+
+// Lays a text into a space, and sevens behind it.
 fn fill(space: &mut [u8], text: &[u8]) {
-    let end = least(text.len(), space.len());
-    for k in 0..end {
-        space[k] = text[k];
+    for k in 0..space.len() {
+        space[k] = text_byte(text, k);
     }
 }
 
@@ -463,9 +469,9 @@ impl Tally {
         }
     }
 
-    // With the calls of a text.
-    fn called(mut self, steps: Steps) -> Tally {
-        self.calls = plus(self.calls, CALLS);
+    // With so many calls.
+    fn called(mut self, steps: Steps, calls: u32) -> Tally {
+        self.calls = plus(self.calls, calls);
         self.accepted = plus(self.accepted, steps.accepted);
         self.refused = plus(self.refused, steps.refused);
         if !steps.same {
@@ -481,50 +487,6 @@ impl Tally {
         }
         self
     }
-}
-
-// The calls of a text by `file::run`; the file's length afterwards.
-fn run_calls(
-    space: &mut [u8],
-    text: &[u8],
-    number: u32,
-    requests: &[u32],
-    nodes: &mut [u32],
-    comments: &mut [u32],
-    out: &mut [u8],
-) -> usize {
-    fill(space, text);
-    file::run(
-        space,
-        length_of(number, text.len()),
-        number % 10,
-        requests,
-        nodes,
-        comments,
-        out,
-    )
-}
-
-// The calls of a text one by one.
-fn make_calls(
-    space: &mut [u8],
-    text: &[u8],
-    number: u32,
-    requests: &[u32],
-    nodes: &mut [u32],
-    comments: &mut [u32],
-    out: &mut [u8],
-) -> Steps {
-    fill(space, text);
-    make_all(
-        space,
-        text.len(),
-        number % 10,
-        requests,
-        nodes,
-        comments,
-        out,
-    )
 }
 
 // Whether the calls by `file::run`, made again, leave the file, which is that in the other space.
@@ -570,21 +532,21 @@ fn same_lent(
     same_bytes(out, other_out)
 }
 
-// Makes the calls of a text in two spaces, by `file::run` and one by one, and compares.
+// Makes the calls of a text so long in two spaces, by `file::run` and one by one, and compares.
 fn compare_in(
     space: &mut [u8],
     spare: &mut [u8],
-    text: &[u8],
+    text: usize,
     number: u32,
     requests: &[u32],
 ) -> Steps {
     let mut nodes: [u32; 9005] = [7; 9005];
     let mut comments: [u32; 1804] = [7; 1804];
     let mut out: [u8; SPACE] = [7; SPACE];
-    let length = run_calls(
+    let length = file::run(
         space,
-        text,
-        number,
+        length_of(number, text),
+        number % 10,
         requests,
         &mut nodes,
         &mut comments,
@@ -596,7 +558,7 @@ fn compare_in(
     let steps = make_calls(
         spare,
         text,
-        number,
+        number % 10,
         requests,
         &mut spare_nodes,
         &mut spare_comments,
@@ -616,8 +578,28 @@ fn compare_in(
         .compared(same_bytes(space, spare))
 }
 
-// Makes the calls of a text, compares, and makes them again if the file must stay.
-fn compare_parts(
+// Makes a list of calls of a text, compares, and makes them again if the file must stay.
+fn compare_list(
+    space: &mut [u8],
+    spare: &mut [u8],
+    text: &[u8],
+    case: Case,
+    requests: &[u32],
+    tally: Tally,
+) -> Tally {
+    let number = case.number;
+    fill(space, text);
+    fill(spare, text);
+    let steps = compare_in(space, spare, text.len(), number, requests);
+    let now = tally.called(steps, short(requests.len() / 4));
+    if must_stay(case, steps) {
+        return now.stayed(stays(space, spare, steps.length, number, requests));
+    }
+    now
+}
+
+// Makes the first calls of a text, one, two and so on up to all.
+fn compare_lists(
     space: &mut [u8],
     spare: &mut [u8],
     text: &[u8],
@@ -626,10 +608,10 @@ fn compare_parts(
 ) -> Tally {
     let number = case.number;
     let requests = requests_for(needs_of(text, number % 10));
-    let steps = compare_in(space, spare, text, number, &requests);
-    let now = tally.called(steps);
-    if must_stay(case, steps) {
-        return now.stayed(stays(space, spare, steps.length, number, &requests));
+    let mut now = tally;
+    for k in 0..CALLS {
+        let end = k * 4 + 4;
+        now = compare_list(space, spare, text, case, &requests[..end], now);
     }
     now
 }
@@ -639,7 +621,7 @@ fn compare_text(text: &[u8], case: Case, tally: Tally) -> Tally {
     let mut space: [u8; SPACE] = [7; SPACE];
     let mut spare: [u8; SPACE] = [7; SPACE];
     let room = room_of(case.number, text.len());
-    compare_parts(&mut space[..room], &mut spare[..room], text, case, tally)
+    compare_lists(&mut space[..room], &mut spare[..room], text, case, tally)
 }
 
 // Makes the calls of the next text of the list.

@@ -6,11 +6,11 @@ use borrow.Author.Needs.{needs}
 use Rattle.replay_calls.proofs.compare_text.Statement.{statement}
 use Rattle.replay_calls.proofs.compare_text.Tie as tie
 
-slice-aggregate-compare-parts : tie.Need-slice-aggregate-compare-parts
-slice-aggregate-compare-parts c = sym (length-take-le _ _ (omega arith))
+slice-aggregate-compare-lists : tie.Need-slice-aggregate-compare-lists
+slice-aggregate-compare-lists c = sym (length-take-le _ _ (omega arith))
 
-slice-aggregate-compare-parts-2 : tie.Need-slice-aggregate-compare-parts-2
-slice-aggregate-compare-parts-2 c = sym (length-take-le _ _ (omega arith))
+slice-aggregate-compare-lists-2 : tie.Need-slice-aggregate-compare-lists-2
+slice-aggregate-compare-lists-2 c = sym (length-take-le _ _ (omega arith))
 
 pub compare-text-spec : {M : Type 1} → statement M
 compare-text-spec =
@@ -18,8 +18,8 @@ compare-text-spec =
     (tie.spec
     (λ c κs. search needs)
     (λ c. search needs)
-    slice-aggregate-compare-parts
+    slice-aggregate-compare-lists
     (λ c. search needs)
-    slice-aggregate-compare-parts-2
+    slice-aggregate-compare-lists-2
     (λ c κs. search needs)
     (λ c. search needs))

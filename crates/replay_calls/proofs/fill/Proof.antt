@@ -8,16 +8,10 @@ use Rattle.replay_calls.proofs.fill.Statement.{statement}
 use Rattle.replay_calls.proofs.fill.Tie as tie
 
 abbrev Inv-loop : tie.InvT-loop
-Inv-loop space₀ text end k₀ space k = length space ≡ length space₀
+Inv-loop space₀ text k₀ k-end space k = length space ≡ length space₀
 
 abbrev μ-loop : tie.MeasureT-loop
-μ-loop space₀ text end k₀ space k = end - k
-
-shared-slice-read-space : tie.Need-shared-slice-read-space Inv-loop μ-loop
-shared-slice-read-space c = omega arith
-
-slice-write-space : tie.Need-slice-write-space Inv-loop μ-loop
-slice-write-space c = omega arith
+μ-loop space₀ text k₀ k-end space k = k-end - k
 
 loop-again : tie.Need-loop-again Inv-loop μ-loop
 loop-again c = simp length-set (omega arith)
@@ -28,10 +22,9 @@ fill-spec =
     (tie.spec
     Inv-loop
     μ-loop
+    (λ c. search needs)
     (λ c κs. search needs)
     (λ c. search needs)
-    shared-slice-read-space
-    slice-write-space
     (λ c. search needs)
     (λ c. search needs)
     loop-again
