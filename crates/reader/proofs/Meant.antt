@@ -173,7 +173,7 @@ module _ (text : List ℕ) (short : length text ≤ 65536) where
   unfolding beginning opening lay rowsOf commentRowsOf sizes noteCounts owned
   beginning-at t u =
       let l = between opening opening in
-      let st : State = record { lexer = opening; kind = 255; loc = l; last = l; next = 0; owned = 0; waiting = 0 } in
+      let st : State = record { kind = 255; loc = l; last = l; next = 0; owned = 0; waiting = 0 } in
       let m = moved text st in
       record {
         last = m .last;
