@@ -126,6 +126,11 @@ next-inside t s e p g =
     (λ s e p k n f _ r. (omega (arith, moved t s k n f, r .0), r .1, r .2, r .3))
     s e p g
 
+-- a token ends where the lexer behind it stands
+pub next-ends : (t : List ℕ) (s e : Lexer) (p : ParserToken) → next t s ≡ N.On p e → p .loc .end ≡ spanOf e
+unfolding between
+next-ends t s e p g = on-induct t (λ s p e. p .loc .end ≡ spanOf e) (λ s k n f _. refl) (λ s e p k n f _ r. r) s e p g
+
 -- ---- where no token starts
 
 abbrev pub Stuck : List ℕ → Lexer → Option ℕ

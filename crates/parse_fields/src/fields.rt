@@ -39,7 +39,7 @@ fn parse_field_id(
 }
 
 // The flag of a requiredness: 1 required, 2 optional, else 0.
-fn required_flag(kind: u8) -> u32
+fn required_flag(kind: u32) -> u32
     ensures { λ r. ⌜ r ≡ requiredOf kind ⌝ }
 {
     if kind == 13 {
@@ -60,7 +60,7 @@ fn skip_required(class: &[u8; 256], trie: &[u8; 512], text: &[u8], st: State) ->
 }
 
 // parse_field_name: the kinds that may name a field.
-fn is_field_name(kind: u8) -> bool
+fn is_field_name(kind: u32) -> bool
     ensures { λ r. ⌜ r ≡ isFieldName kind ⌝ }
 {
     if kind < 10 {
@@ -79,7 +79,7 @@ fn is_field_name(kind: u8) -> bool
 }
 
 // Of the first kinds: namespace, include, enum, struct.
-fn is_early_name(kind: u8) -> bool
+fn is_early_name(kind: u32) -> bool
     ensures { λ r. ⌜ r ≡ isEarlyName kind ⌝ }
 {
     if kind == 1 {
@@ -214,8 +214,8 @@ pub fn parse_fields(
     trie: &[u8; 512],
     text: &[u8],
     st: State,
-    opener: u8,
-    closer: u8,
+    opener: u32,
+    closer: u32,
     flag: u32,
     base: u32,
     parent: u32,

@@ -14,7 +14,7 @@ pub fn parse_leaf(
     trie: &[u8; 512],
     text: &[u8],
     st: State,
-    token: u8,
+    token: u32,
     number: u32,
     kind: u32,
     base: u32,

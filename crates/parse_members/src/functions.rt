@@ -64,7 +64,7 @@ fn parse_return_type(
 }
 
 // The flag of a kind, if the token ahead is of it.
-fn flag_if(ahead: u8, kind: u8, flag: u32) -> u32
+fn flag_if(ahead: u32, kind: u32, flag: u32) -> u32
     ensures { λ r. ⌜ r ≡ flagIf ahead kind flag ⌝ }
 {
     if ahead == kind { flag } else { 0 }

@@ -7,7 +7,7 @@ use steps::state::State;
 use steps::table;
 
 // The record of a type that is one token: 18 for a keyword, 19 for a name, else 0.
-fn leaf_type(kind: u8) -> u32
+fn leaf_type(kind: u32) -> u32
     ensures { λ r. ⌜ r ≡ leafType kind ⌝ }
 {
     if kind < 16 {
@@ -20,7 +20,7 @@ fn leaf_type(kind: u8) -> u32
 }
 
 // The record of a container: 20 list, 21 set, 22 map, else 0.
-fn container_type(kind: u8) -> u32
+fn container_type(kind: u32) -> u32
     ensures { λ r. ⌜ r ≡ containerType kind ⌝ }
 {
     if kind == 25 {

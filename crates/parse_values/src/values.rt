@@ -7,7 +7,7 @@ use steps::state::State;
 use steps::table;
 
 // The record of a value that is one token: 23 string, 24 integer, 25 double, 26 boolean, 27 hex, 28 name; else 0.
-fn leaf_value(kind: u8) -> u32
+fn leaf_value(kind: u32) -> u32
     ensures { λ r. ⌜ r ≡ leafValue kind ⌝ }
 {
     if kind == 28 {
@@ -29,7 +29,7 @@ fn leaf_value(kind: u8) -> u32
 }
 
 // A bracket or brace that opens a value.
-fn is_opener(kind: u8) -> bool
+fn is_opener(kind: u32) -> bool
     ensures { λ r. ⌜ r ≡ isOpener kind ⌝ }
 {
     if kind == 34 {

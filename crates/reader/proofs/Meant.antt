@@ -13,7 +13,7 @@ use lib.ListN.{length, take, drop}
 use Rattle.utf8.specs.declared.Found.the-variants.{Nowhere}
 use Rattle.lexer.specs.declared.location.LOC.{LOC}
 use Rattle.lexer.specs.Outcome.{Outcome}
-use Rattle.lexer.specs.Location.{between, opening}
+use Rattle.lexer.specs.Location.{between, spanOf, opening}
 use Rattle.lexer.specs.Tokens.{Lexeme, tokens}
 use Rattle.lexer.specs.Cuts.{cuts, unrecognized}
 use Rattle.utf8.specs.Found.{found}
@@ -41,7 +41,7 @@ use Rattle.steps.specs.declared.state.State.{State}
 use Rattle.parser.specs.Steps.{St, pos, Res, test, fail}
 use Rattle.parser.specs.Definitions.{parseDefinition, over, documentEnd, parseDocument}
 use Rattle.parser.specs.Read.{parsed, endRule, answered, outcomeBy, outcome, fitted, answer, left, rowsBy, Reading, reading}
-use Rattle.steps.specs.Into.{Out, done, stop, refused, closesAt, restAt, wiped}
+use Rattle.steps.specs.Into.{Out, done, stop, refused, closesAt, lexerAt, restAt, wiped}
 use Rattle.reader.specs.Into.{inRest, restIn, overIn, betweenIn, documentIn, beginning, refusing, ended, refusingAt, fits, judged, unscanned, settled, parsing}
 use Rattle.reader.proofs.Whole.{read-unknown}
 use Rattle.steps.proofs.TableLaws.{lay, lay-append, length-lay, lay-rest, wiped-lay}
@@ -170,10 +170,10 @@ module _ (text : List ℕ) (short : length text ≤ 65536) where
   -- ---- the whole
 
   pub beginning-at : (t u : List ℕ) → At text 8 0 noParent (lent t u) bare (beginning text) t u (pos (between opening opening) [] (tokens text opening))
-  unfolding beginning opening lay rowsOf commentRowsOf sizes noteCounts owned
+  unfolding beginning opening between spanOf lexerAt lay rowsOf commentRowsOf sizes noteCounts owned
   beginning-at t u =
       let l = between opening opening in
-      let st : State = record { lexer = opening; kind = 255; loc = l; last = l; next = 0; owned = 0; waiting = 0 } in
+      let st : State = record { kind = 255; loc = l; last = l; next = 0; owned = 0; waiting = 0 } in
       let m = moved text st in
       record {
         last = m .last;
@@ -251,7 +251,7 @@ module _ (text : List ℕ) (short : length text ≤ 65536) where
 
   sound-means : {o : Out} {r : Res (List Definition)} {i : ℕ} (t u : List ℕ) → Meant (λ ds. At text i 0 noParent (lent t u) (forest ds)) o r
       → unrecognized (cuts (drop (unscanned o) text)) (unscanned o) ≡ unrecognized (cuts text) 0
-  unfolding unscanned
+  unfolding unscanned lexerAt
   sound-means t u (went h) = sound-ahead (h .ahead)
   sound-means t u halted = refl
 

@@ -38,7 +38,7 @@ documentIn text = loopIn text (closesAt 255) (betweenIn text) overIn (restIn tex
 unfoldable pub beginning : List ℕ → State
 beginning text =
     let l = between opening opening in
-    advanced text (record { lexer = opening; kind = 255; loc = l; last = l; next = 0; owned = 0; waiting = 0 })
+    advanced text (record { kind = 255; loc = l; last = l; next = 0; owned = 0; waiting = 0 })
 
 -- ---- the whole
 
@@ -64,7 +64,7 @@ judged (stop e l) len t u = refusingAt e l len t u
 
 -- from where on tokens are still to be looked for: behind what was read; from the start where the grammar refuses
 unfoldable pub unscanned : Out → ℕ
-unscanned (done st t u) = st .lexer .at
+unscanned (done st t u) = st .loc .end .index
 unscanned (stop e l) = 0
 
 -- 22 comes before what the grammar finds

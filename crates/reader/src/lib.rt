@@ -104,7 +104,6 @@ fn begin(class: &[u8; 256], trie: &[u8; 512], text: &[u8]) -> State
     let loc = LOC { start, end };
     let last = loc;
     let st = State {
-        lexer,
         kind: NONE,
         loc,
         last,
@@ -112,7 +111,8 @@ fn begin(class: &[u8; 256], trie: &[u8; 512], text: &[u8]) -> State
         owned: 0,
         waiting: 0,
     };
-    steps::advance(class, trie, text, st)
+    let found = steps::look(class, trie, text, start);
+    steps::ahead(found, st)
 }
 
 // A table's numbers become 0 from an index on.
@@ -190,8 +190,8 @@ fn unscanned(parsed: Parsed) -> usize
     match parsed {
         Parsed::Refused(_, _) => 0,
         Parsed::On(state) => {
-            let lexer = state.lexer;
-            lexer.at as usize
+            let loc = state.loc;
+            loc.end.index as usize
         }
     }
 }

@@ -117,7 +117,7 @@ fn same_token(rows: &[u8], at: usize, token: ParserToken) -> bool
 {
     let kind = token.token;
     let loc = token.loc;
-    if number(rows, at) != kind.code() as u32 {
+    if number(rows, at) != kind.code() {
         return false;
     }
     if !same_span(rows, at + 4, loc.start) {

@@ -14,6 +14,7 @@ use Prim.Native.Nat.{ℕ, zero, suc, _+_, _<_, _≤_}
 use native.Mathlib.Omega.{arith}
 use lib.Dec.{eqb, ltb}
 use borrow.Author.Tests.{eqb-true}
+use Rattle.lexer.specs.declared.location.Span.{Span}
 use Rattle.lexer.specs.declared.location.Lexer.{Lexer}
 use Rattle.lexer.specs.declared.location.LOC.{LOC}
 use Rattle.lexer.specs.declared.location.Span.{Span}
@@ -39,6 +40,7 @@ use Rattle.steps.specs.Into.{
   opened,
   leafIn,
   nodeIn,
+  lexerAt,
   lookAt,
   aheadOf,
   advanced,
@@ -67,20 +69,19 @@ end-or true r p e h = let z : _≡_ {A = ℕ} 0 1 = cc in absurd (omega arith)
 end-or false r p e h = h
 
 module _ (text : List ℕ) where
-  looked : (s e : Lexer) (p : ParserToken) → lookAt text s ≡ N.On p e → L.next text s ≡ N.On p e
+  looked : (x : Span) (e : Lexer) (p : ParserToken) → lookAt text x ≡ N.On p e → L.next text (lexerAt x) ≡ N.On p e
   unfolding lookAt
-  looked s e p h =
-      end-or (ltb (s .at) (s .origin)) _ p e (end-or (ltb (s .at) (s .line)) _ p e (end-or (ltb 65536 (s .at)) _ p e h))
+  looked x e p h = end-or (ltb (lexerAt x .at) (lexerAt x .line)) _ p e (end-or (ltb 65536 (lexerAt x .at)) _ p e h)
 
-  fewer : (st : State) → eqb (st .kind) 255 ≡ false → (r : Next) → lookAt text (st .lexer) ≡ r → bytesLeft text (aheadOf r st) < bytesLeft text st
-  unfolding aheadOf bytesLeft
-  fewer st h (N.On p s) e = let i = next-inside text (st .lexer) s p (looked (st .lexer) s p e) in rw (h, code-some (p .token)) (omega arith)
+  fewer : (st : State) → eqb (st .kind) 255 ≡ false → (r : Next) → lookAt text (st .loc .end) ≡ r → bytesLeft text (aheadOf r st) < bytesLeft text st
+  unfolding aheadOf bytesLeft lexerAt
+  fewer st h (N.On p s) e = let i = next-inside text (lexerAt (st .loc .end)) s p (looked (st .loc .end) s p e) in rw (h, code-some (p .token)) (omega arith)
   fewer st h N.End e = rw h (omega arith)
   fewer st h (N.Unrecognized p) e = rw h (omega arith)
 
   pub advance-falls : (st : State) → eqb (st .kind) 255 ≡ false → bytesLeft text (advanced text st) < bytesLeft text st
   unfolding advanced
-  advance-falls st h = fewer st h (lookAt text (st .lexer)) refl
+  advance-falls st h = fewer st h (lookAt text (st .loc .end)) refl
 
   -- a comment that waits is still ahead
   pub wait-falls : (st : State) → eqb (st .kind) 255 ≡ false → bytesLeft text (advanced text (waits st)) < bytesLeft text st

@@ -8,7 +8,7 @@
 --     advance-ahead       one token further
 --     few-left            the bytes left
 --     small-bump, small-sum    the code's numbers are counted as they are
-use mathlib.Core.Path.{_≡_, refl, sym, _∙_}
+use mathlib.Core.Path.{_≡_, refl, sym, ap, _∙_}
 use mathlib.Core.Bool.{Bool, true, false, not, cond}
 use mathlib.Core.List.{List, [], _∷_, _++_}
 use Prim.Native.Nat.{ℕ, suc, _+_, _*_, _-_, _≤_, _<_}
@@ -18,15 +18,16 @@ use lib.Dec.{eqb}
 use lib.ListN.{length}
 use Rattle.token.specs.Code.{code}
 use Rattle.lexer.specs.declared.location.Lexer.{Lexer}
+use Rattle.lexer.specs.declared.location.Span.{Span}
 use Rattle.lexer.specs.declared.location.LOC.{LOC}
 use Rattle.lexer.specs.declared.location.ParserToken.{ParserToken}
 use Rattle.lexer.specs.declared.location.Next.{Next}
 use Rattle.lexer.specs.declared.location.Next.the-variants as N
-use Rattle.lexer.specs.Location.{Placed}
+use Rattle.lexer.specs.Location.{Placed, spanOf}
 use Rattle.lexer.specs.Cuts.{cuts, unrecognized}
 use Rattle.lexer.specs.Tokens as L
 use Rattle.lexer.specs.Tokens.{Lexeme, tokens, lexemeOf}
-use Rattle.lexer.proofs.NextLaws.{Stuck, next-placed, next-inside, unrecognized-on, tokens-on, tokens-end, tokens-unrecognized}
+use Rattle.lexer.proofs.NextLaws.{Stuck, next-placed, next-inside, next-ends, unrecognized-on, tokens-on, tokens-end, tokens-unrecognized}
 use Rattle.ast.specs.Lists.{All}
 use Rattle.ast.specs.Tree.{Forest}
 use Rattle.ast.specs.Records.{sizes, rowsOf, owned, commentRowsOf}
@@ -34,7 +35,7 @@ use Rattle.ast.proofs.Counts.{Wide, noteCounts}
 use Rattle.steps.specs.declared.state.State.{State}
 use Rattle.parser.specs.Steps.{kind, bytes, place, St, pos, Res, ok, no, P, bind, test}
 use Rattle.parser.specs.Definitions.{isId}
-use Rattle.steps.specs.Into.{Out, done, stop, M, after, largest, bump, sum, lookAt, aheadOf, advanced, bytesLeft, isIdAt}
+use Rattle.steps.specs.Into.{Out, done, stop, M, after, largest, bump, sum, lexerAt, lookAt, aheadOf, advanced, bytesLeft, isIdAt}
 use Rattle.steps.proofs.TableLaws.{lay}
 use Rattle.steps.proofs.ForestLaws.{_⊕_}
 use Rattle.steps.proofs.Bytes.{Within, within}
@@ -67,7 +68,7 @@ pub data Ahead (text : List ℕ) (k : ℕ) (l : LOC) (x : Lexer) : List Lexeme �
   on : {t : Lexeme} {ts : List Lexeme} → First text k l t → ts ≡ tokens text x → Placed x → 0 < x .at → Sound text x → Ahead text k l x (t ∷ ts)
 
 abbrev pub AheadOf : List ℕ → State → List Lexeme → Type 0
-AheadOf text st ts = Ahead text (st .kind) (st .loc) (st .lexer) ts
+AheadOf text st ts = Ahead text (st .kind) (st .loc) (lexerAt (st .loc .end)) ts
 
 -- what an advance keeps
 pub record Moved (st : State) (r : State) : Type 0 where
@@ -81,32 +82,43 @@ spelled-at : (text : List ℕ) (p : ParserToken) → p .loc .start .index ≤ p 
 unfolding isIdAt bytes lexemeOf
 spelled-at text p h g = rw (le-ltb _ _ g, le-ltb _ _ h)
 
-module _ (text : List ℕ) (short : length text ≤ 65536) where
-  look : (s : Lexer) → Placed s → lookAt text s ≡ L.next text s
-  unfolding lookAt
-  look s h = rw (le-ltb 65536 (s .at) (h .below), le-ltb (s .at) (s .line) (h .lines), le-ltb (s .at) (s .origin) (h .line-begun))
+-- the lexer at the end of a token is the one behind it
+pub lexer-span : (s : Lexer) → s .origin ≤ s .at → lexerAt (spanOf s) ≡ s
+unfolding lexerAt spanOf
+lexer-span s h =
+    let a : s .line + 1 - 1 ≡ s .line = omega arith in
+    let b : s .at - (s .at - s .origin + 1 - 1) ≡ s .origin = omega arith in
+    rw (a, b)
 
-  ahead-by : (r : Next) (st : State) → Placed (st .lexer) → Sound text (st .lexer) → L.next text (st .lexer) ≡ r → AheadOf text (aheadOf r st) (tokens text (st .lexer))
+module _ (text : List ℕ) (short : length text ≤ 65536) where
+  look : (e : Span) → Placed (lexerAt e) → lookAt text e ≡ L.next text (lexerAt e)
+  unfolding lookAt
+  look e h = rw (le-ltb 65536 (lexerAt e .at) (h .below), le-ltb (lexerAt e .at) (lexerAt e .line) (h .lines))
+
+  ahead-by : (r : Next) (st : State) → let x = lexerAt (st .loc .end) in Placed x → Sound text x → L.next text x ≡ r → AheadOf text (aheadOf r st) (tokens text x)
   unfolding aheadOf kind place lexemeOf
   ahead-by (N.On p s) st h q e =
-      let i = next-inside text (st .lexer) s p e in
-      rw (tokens-on text (st .lexer) s p e)
+      let x = lexerAt (st .loc .end) in
+      let i = next-inside text x s p e in
+      let z = next-placed text x s p h short e in
+      let y : lexerAt (p .loc .end) ≡ s = ap lexerAt (next-ends text x s p e) ∙ lexer-span s (z .line-begun) in
+      rw (tokens-on text x s p e, y)
       (on (record { coded = refl; placed = refl; spelled = spelled-at text p (omega (arith, i .1)) (omega (arith, i .2, i .3)) })
-      refl (next-placed text (st .lexer) s p h short e) (omega (arith, i .1, i .2)) (sym (unrecognized-on text (st .lexer) s p e) ∙ q))
-  ahead-by N.End st h q e = rw (tokens-end text (st .lexer) e) (over refl q)
-  ahead-by (N.Unrecognized p) st h q e = rw (tokens-unrecognized text (st .lexer) p e) (over refl q)
+      refl z (omega (arith, i .1, i .2)) (sym (unrecognized-on text x s p e) ∙ q))
+  ahead-by N.End st h q e = rw (tokens-end text (lexerAt (st .loc .end)) e) (over refl q)
+  ahead-by (N.Unrecognized p) st h q e = rw (tokens-unrecognized text (lexerAt (st .loc .end)) p e) (over refl q)
 
-  pub advance-ahead : (st : State) → Placed (st .lexer) → Sound text (st .lexer) → AheadOf text (advanced text st) (tokens text (st .lexer))
+  pub advance-ahead : (st : State) → let x = lexerAt (st .loc .end) in Placed x → Sound text x → AheadOf text (advanced text st) (tokens text x)
   unfolding advanced
-  advance-ahead st h q = rw (look (st .lexer) h) (ahead-by (L.next text (st .lexer)) st h q refl)
+  advance-ahead st h q = rw (look (st .loc .end) h) (ahead-by (L.next text (lexerAt (st .loc .end))) st h q refl)
 
 -- fewer bytes are left than a list of the definitions has turns
 pub few-left : {text : List ℕ} {ts : List Lexeme} (st : State) → length text ≤ 65536 → AheadOf text st ts → bytesLeft text st < 65537
-unfolding bytesLeft
+unfolding bytesLeft lexerAt
 few-left st short (over e q) = rw e (omega arith)
 few-left {text} st short (on h e x a q) = left (eqb (st .kind) 255)
   where
-    left : (b : Bool) → cond b 0 (suc (length text - st .lexer .at)) < 65537
+    left : (b : Bool) → cond b 0 (suc (length text - st .loc .end .index)) < 65537
     left true = omega arith
     left false = omega arith
 
@@ -118,7 +130,7 @@ moved-by (N.Unrecognized q) st = record { last = refl; next = refl; owned = refl
 
 pub moved : (text : List ℕ) (st : State) → Moved st (advanced text st)
 unfolding advanced
-moved text st = moved-by (lookAt text (st .lexer)) st
+moved text st = moved-by (lookAt text (st .loc .end)) st
 
 -- ---- where both stand
 

@@ -97,7 +97,7 @@ unfoldable pub placeOf : ℕ → ℕ → ℕ
 placeOf b n = n - b
 
 unfoldable pub opened : State → State
-opened st = record { lexer = st .lexer; kind = st .kind; loc = st .loc; last = st .last; next = bump (st .next); owned = st .owned; waiting = st .waiting }
+opened st = record { kind = st .kind; loc = st .loc; last = st .last; next = bump (st .next); owned = st .owned; waiting = st .waiting }
 
 -- the last token taken, as a node
 unfoldable pub leafIn : ℕ → ℕ → ℕ → M
@@ -112,20 +112,24 @@ nodeIn n k f s b p st t u = done st (putNode n k f s b p st t) u
 
 -- ---- steps
 
--- the token behind the lexer; none where the lexer stands in no text
-unfoldable pub lookAt : List ℕ → Lexer → Next
-lookAt t s = cond (ltb 65536 (s .at)) N.End (cond (ltb (s .at) (s .line)) N.End (cond (ltb (s .at) (s .origin)) N.End (L.next t s)))
+-- the lexer that stands at a place
+unfoldable pub lexerAt : Span → Lexer
+lexerAt e = record { at = e .index; line = e .line - 1; origin = e .index - (e .column - 1) }
+
+-- the token behind a place; none where the place is in no text
+unfoldable pub lookAt : List ℕ → Span → Next
+lookAt t e = let s = lexerAt e in cond (ltb 65536 (s .at)) N.End (cond (ltb (s .at) (s .line)) N.End (L.next t s))
 
 unfoldable pub aheadOf : Next → State → State
 aheadOf (N.On p s) st =
-    record { lexer = s; kind = code (p .token); loc = p .loc; last = st .loc; next = st .next; owned = st .owned; waiting = st .waiting }
+    record { kind = code (p .token); loc = p .loc; last = st .loc; next = st .next; owned = st .owned; waiting = st .waiting }
 aheadOf N.End st =
-    record { lexer = st .lexer; kind = 255; loc = st .loc; last = st .loc; next = st .next; owned = st .owned; waiting = st .waiting }
+    record { kind = 255; loc = st .loc; last = st .loc; next = st .next; owned = st .owned; waiting = st .waiting }
 aheadOf (N.Unrecognized p) st =
-    record { lexer = st .lexer; kind = 255; loc = st .loc; last = st .loc; next = st .next; owned = st .owned; waiting = st .waiting }
+    record { kind = 255; loc = st .loc; last = st .loc; next = st .next; owned = st .owned; waiting = st .waiting }
 
 unfoldable pub advanced : List ℕ → State → State
-advanced text st = aheadOf (lookAt text (st .lexer)) st
+advanced text st = aheadOf (lookAt text (st .loc .end)) st
 
 unfoldable pub advanceIn : List ℕ → M
 advanceIn text st t u = done (advanced text st) t u
@@ -148,7 +152,7 @@ expectIn text k e st t u = cond (eqb (st .kind) k) (takeIn text st t u) (refused
 -- the bytes behind the lexer, and one for the token ahead; none where no token is ahead. What takes a token makes them fall, so a loop has at most
 -- one turn more than bytes are left, and each below is its first turn and then itself (passed-is and comments-is in proofs/Bytes, loop-is in LoopForms)
 unfoldable pub bytesLeft : List ℕ → State → ℕ
-bytesLeft text st = cond (eqb (st .kind) 255) 0 (suc (length text - st .lexer .at))
+bytesLeft text st = cond (eqb (st .kind) 255) 0 (suc (length text - st .loc .end .index))
 
 unfoldable pub isSeparator : ℕ → Bool
 isSeparator k = eqb k 44 || eqb k 42
@@ -172,7 +176,7 @@ skipIn text s st t u = done (passed text s st) t u
 
 -- the comment ahead waits
 unfoldable pub waits : State → State
-waits st = record { lexer = st .lexer; kind = st .kind; loc = st .loc; last = st .last; next = st .next; owned = st .owned; waiting = bump (st .waiting) }
+waits st = record { kind = st .kind; loc = st .loc; last = st .last; next = st .next; owned = st .owned; waiting = bump (st .waiting) }
 
 unfoldable pub putWaiting : State → List ℕ → List ℕ
 putWaiting st u = put (st .owned + st .waiting) (row (cond (eqb (st .kind) 48) 32 33) 0 0 (st .loc)) u
@@ -195,7 +199,7 @@ parents i zero p u = u
 parents i (suc n) p u = parents (i + 1) n p (putParent i p u)
 
 unfoldable pub owns : State → State
-owns st = record { lexer = st .lexer; kind = st .kind; loc = st .loc; last = st .last; next = st .next; owned = sum (st .owned) (st .waiting); waiting = 0 }
+owns st = record { kind = st .kind; loc = st .loc; last = st .last; next = st .next; owned = sum (st .owned) (st .waiting); waiting = 0 }
 
 unfoldable pub ownIn : ℕ → M
 ownIn p st t u = done (owns st) t (parents (st .owned) (st .waiting) p u)

@@ -4,7 +4,8 @@ pub mod state;
 pub mod table;
 
 ghost use mathlib.Core.Path.{_≡_};
-ghost use Rattle.steps.specs.Into.{Keeps, Lent, Still, lookAt, aheadOf, advanced, refuseIn, startAt, takeIn, expectIn, isSeparator, isComment, passes, passed, waitIn, skipCommentsIn, ownIn};
+ghost use Prim.Native.Nat.{_-_};
+ghost use Rattle.steps.specs.Into.{Keeps, Lent, Still, lexerAt, lookAt, aheadOf, advanced, refuseIn, startAt, takeIn, expectIn, isSeparator, isComment, passes, passed, waitIn, skipCommentsIn, ownIn};
 use lexer::location::Lexer;
 use lexer::location::Next;
 use lexer::location::Span;
@@ -12,34 +13,49 @@ use state::NONE;
 use state::Parsed;
 use state::State;
 
-// The token behind the lexer; none where the lexer stands in no text.
-fn look(class: &[u8; 256], trie: &[u8; 512], text: &[u8], lexer: Lexer) -> Next
-    requires { ⌜ Lent (now class) (now trie) (now text) ⌝ }
-    ensures { λ r. ⌜ r ≡ lookAt (now (text .entry)) lexer ⌝ }
+// The difference, 0 where it would be below.
+fn less(a: u32, b: u32) -> u32
+    ensures { λ r. ⌜ r ≡ a - b ⌝ }
 {
-    if 65536 < lexer.at {
+    if a < b { 0 } else { a - b }
+}
+
+// The lexer that stands at a place.
+fn lexer_at(place: Span) -> Lexer
+    ensures { λ r. ⌜ r ≡ lexerAt place ⌝ }
+{
+    Lexer {
+        at: place.index,
+        line: less(place.line, 1),
+        origin: less(place.index, less(place.column, 1)),
+    }
+}
+
+// The token behind a place; none where the place is in no text.
+pub fn look(class: &[u8; 256], trie: &[u8; 512], text: &[u8], place: Span) -> Next
+    requires { ⌜ Lent (now class) (now trie) (now text) ⌝ }
+    ensures { λ r. ⌜ r ≡ lookAt (now (text .entry)) place ⌝ }
+{
+    let from = lexer_at(place);
+    if 65536 < from.at {
         return Next::End;
     }
-    if lexer.at < lexer.line {
+    if from.at < from.line {
         return Next::End;
     }
-    if lexer.at < lexer.origin {
-        return Next::End;
-    }
-    lexer::next_token(class, trie, text, lexer)
+    lexer::next_token(class, trie, text, from)
 }
 
 // The state with that token ahead, the one ahead taken.
-fn ahead(found: Next, st: State) -> State
+pub fn ahead(found: Next, st: State) -> State
     ensures { λ r. ⌜ r ≡ aheadOf found st ⌝ }
 {
     let last = st.loc;
     match found {
-        Next::On(token, lexer) => {
+        Next::On(token, _) => {
             let kind = token.token;
             let loc = token.loc;
             State {
-                lexer,
                 kind: kind.code(),
                 loc,
                 last,
@@ -49,10 +65,8 @@ fn ahead(found: Next, st: State) -> State
             }
         }
         _ => {
-            let lexer = st.lexer;
             let loc = st.loc;
             State {
-                lexer,
                 kind: NONE,
                 loc,
                 last,
@@ -69,7 +83,9 @@ pub fn advance(class: &[u8; 256], trie: &[u8; 512], text: &[u8], st: State) -> S
     requires { ⌜ Lent (now class) (now trie) (now text) ⌝ }
     ensures { λ r. ⌜ r ≡ advanced (now (text .entry)) st ⌝ }
 {
-    let found = look(class, trie, text, st.lexer);
+    let loc = st.loc;
+    let end = loc.end;
+    let found = look(class, trie, text, end);
     ahead(found, st)
 }
 
@@ -115,7 +131,7 @@ pub fn expect(
     trie: &[u8; 512],
     text: &[u8],
     st: State,
-    kind: u8,
+    kind: u32,
     number: u32,
 ) -> Parsed
     requires { ⌜ Lent (now class) (now trie) (now text) ⌝ }
@@ -140,7 +156,7 @@ pub fn skip(class: &[u8; 256], trie: &[u8; 512], text: &[u8], st: State, separat
 }
 
 // Whether a kind is a separator; or a comment.
-fn passes(kind: u8, separators: bool) -> bool
+fn passes(kind: u32, separators: bool) -> bool
     ensures { λ r. ⌜ r ≡ passes kind separators ⌝ }
 {
     if separators {
@@ -149,7 +165,7 @@ fn passes(kind: u8, separators: bool) -> bool
     is_comment(kind)
 }
 
-pub fn is_separator(kind: u8) -> bool
+pub fn is_separator(kind: u32) -> bool
     ensures { λ r. ⌜ r ≡ isSeparator kind ⌝ }
 {
     if kind == 44 {
@@ -158,7 +174,7 @@ pub fn is_separator(kind: u8) -> bool
     kind == 42
 }
 
-pub fn is_comment(kind: u8) -> bool
+pub fn is_comment(kind: u32) -> bool
     ensures { λ r. ⌜ r ≡ isComment kind ⌝ }
 {
     if kind == 48 {
@@ -205,7 +221,6 @@ fn wait(st: State, comments: &mut [u32]) -> State
     }
     let loc = st.loc;
     let last = st.last;
-    let lexer = st.lexer;
     table::put_record(
         comments,
         st.owned as usize + st.waiting as usize,
@@ -215,7 +230,6 @@ fn wait(st: State, comments: &mut [u32]) -> State
         loc,
     );
     State {
-        lexer,
         kind: st.kind,
         loc,
         last,
@@ -236,11 +250,9 @@ pub fn own(st: State, owner: u32, comments: &mut [u32]) -> State
         table::put_parent(comments, first + i, owner);
         i += 1;
     }
-    let lexer = st.lexer;
     let loc = st.loc;
     let last = st.last;
     State {
-        lexer,
         kind: st.kind,
         loc,
         last,

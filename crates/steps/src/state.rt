@@ -1,21 +1,24 @@
 // The parser by value: rico's Parser without its tree.
 use lexer::location::LOC;
-use lexer::location::Lexer;
 
-// The lexer behind the token ahead; that token's place; the place of the last token taken; the number of the next node record;
-// how many comments have an owner, and how many wait for one; the kind of the token ahead.
+// The lexer stands at the end of the token ahead.
 pub struct State {
-    pub lexer: Lexer,
+    // where the token ahead stands; where none is left, the last one
     pub loc: LOC,
+    // where the last token taken stands
     pub last: LOC,
+    // the number of the next node record
     pub next: u32,
+    // how many comments have an owner
     pub owned: u32,
+    // how many comments wait for one
     pub waiting: u32,
-    pub kind: u8,
+    // the kind of the token ahead
+    pub kind: u32,
 }
 
 // The kind where no token is left.
-pub const NONE: u8 = 255;
+pub const NONE: u32 = 255;
 
 // What a reader leaves: the state behind what it read, or document 01's number and the token's place.
 pub enum Parsed {

@@ -70,11 +70,9 @@ fn place_of(base: u32, number: u32) -> usize
 pub fn open(st: State) -> State
     ensures { λ r. ⌜ r ≡ opened st ⌝ }
 {
-    let lexer = st.lexer;
     let loc = st.loc;
     let last = st.last;
     State {
-        lexer,
         kind: st.kind,
         loc,
         last,

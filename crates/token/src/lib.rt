@@ -68,7 +68,7 @@ pub enum Scan {
 
 impl Token {
     // The number of a kind: its place in the enum, from 0.
-    pub fn code(self) -> u8
+    pub fn code(self) -> u32
         ensures { λ r. ⌜ r ≡ code self ⌝ }
     {
         match self {

@@ -13,7 +13,7 @@ use Rattle.steps.proofs.ahead.Tie as tie
 
 -- no token is found
 none : (x : Next.the-type .D) (st : State) → (tagOf Next.the-type x ≡ 1) ⊎ (tagOf Next.the-type x ≡ 2)
-    → _≡_ {A = State} (record { lexer = st .lexer; kind = 255; loc = st .loc; last = st .loc; next = st .next; owned = st .owned; waiting = st .waiting }) (aheadOf x st)
+    → _≡_ {A = State} (record { kind = 255; loc = st .loc; last = st .loc; next = st .next; owned = st .owned; waiting = st .waiting }) (aheadOf x st)
 unfolding aheadOf
 none (N.On p s) st h = absurd (⊎-elim (λ e. omega arith) (λ e. omega arith) h)
 none N.End st h = refl
@@ -24,7 +24,7 @@ unfolding aheadOf
 returns c = rw (c .before .before .before .found .given .1, c .code .ensures)
 
 returns-2 : tie.Need-returns-2
-returns-2 c = none _ _ (c .before .before .match .keys2)
+returns-2 c = none _ _ (c .before .match .keys2)
 
 pub ahead-spec : {M : Type 1} → statement M
 ahead-spec = tie.close (tie.spec (λ c. search needs) (λ c κs. search needs) returns returns-2)

@@ -31,13 +31,13 @@ loop-again c =
     (omega arith, p .kept .0 ∙ l .inv .1, own-step _ _ _ _ _ _ _ h (l .inv .2) (p .ensures))
 
 same-length : tie.Need-same-length Inv-loop μ-loop
-same-length c = c .before .before .before .before .before .loop .inv .1
+same-length c = c .before .before .before .before .loop .inv .1
 
 returns : tie.Need-returns Inv-loop μ-loop
 unfolding ownIn owns
 returns c =
-    let l = c .before .before .before .before .before .loop in
-    λ t. rw (c .sum .ensures, l .inv .2, own-done _ _ _ _ _ (c .before .before .before .before .loop-test .left))
+    let l = c .before .before .before .before .loop in
+    λ t. rw (c .sum .ensures, l .inv .2, own-done _ _ _ _ _ (c .before .before .before .loop-test .left))
 
 pub own-spec : {M : Type 1} → statement M
 own-spec =

@@ -12,7 +12,7 @@ returns c =
     let b = c .bump .ensures in
     let p = c .before .before .before .put-record .ensures in
     λ t. ⊎-elim (λ w. rw (b, p, eq-eqb _ _ (w .0 .taken), w .1))
-    (λ w. rw (b, p, ne-eqb _ _ (w .0 .left), w .1)) (c .before .before .before .before .before .before .before .before .before .before .if1 .came)
+    (λ w. rw (b, p, ne-eqb _ _ (w .0 .left), w .1)) (c .before .before .before .before .before .before .before .before .before .if1 .came)
 
 pub wait-spec : {M : Type 1} → statement M
 wait-spec =
