@@ -1,4 +1,5 @@
 // Annotations.
+ghost use mathlib.Core.Path.{_≡_};
 ghost use Rattle.steps.specs.Into.{Lent, Quiet};
 ghost use Rattle.parse_fields.specs.Into.{annotationIn, annotationListIn, annotationsIn};
 use steps::state::Parsed;
@@ -67,7 +68,7 @@ fn parse_annotation_list(
     }
 }
 
-// parse_annotations, if there are any: they start at the token before the bracket.
+// parse_annotations, if there are any. The usual case, none, is apart, so that it copies no state.
 pub fn parse_annotations(
     class: &[u8; 256],
     trie: &[u8; 512],
@@ -80,9 +81,25 @@ pub fn parse_annotations(
     requires { ⌜ Lent (now class) (now trie) (now text) ⌝ }
     ensures { λ r. ⌜ Quiet (annotationsIn (now (text .entry)) base parent) st r (now (rest .entry)) (now (rest .exit)) ⌝ }
 {
-    if st.kind != 40 {
-        return Parsed::On(st);
+    if st.kind == 40 {
+        return parse_some_annotations(class, trie, text, st, base, parent, rest);
     }
+    Parsed::On(st)
+}
+
+// They start at the token before the bracket, which is ahead.
+fn parse_some_annotations(
+    class: &[u8; 256],
+    trie: &[u8; 512],
+    text: &[u8],
+    st: State,
+    base: u32,
+    parent: u32,
+    rest: &mut [u32],
+) -> Parsed
+    requires { ⌜ Lent (now class) (now trie) (now text) × (st .kind ≡ 40) ⌝ }
+    ensures { λ r. ⌜ Quiet (annotationsIn (now (text .entry)) base parent) st r (now (rest .entry)) (now (rest .exit)) ⌝ }
+{
     let opened = table::open(st);
     let inside = steps::advance(class, trie, text, opened);
     let read = parse_annotation_list(class, trie, text, inside, base, st.next, rest);

@@ -1,4 +1,5 @@
 // Enum members.
+ghost use mathlib.Core.Path.{_≡_};
 ghost use Rattle.steps.specs.Into.{Lent, Reads, Quiet};
 ghost use Rattle.parse_members.specs.Into.{initializerIn, memberIn, enumMembersIn};
 use parse_fields::annotations;
@@ -6,7 +7,7 @@ use steps::state::Parsed;
 use steps::state::State;
 use steps::table;
 
-// The number of a member, if it is written.
+// The number of a member, if it is written. The usual case, none, is apart, so that it copies no state.
 fn parse_initializer(
     class: &[u8; 256],
     trie: &[u8; 512],
@@ -19,9 +20,25 @@ fn parse_initializer(
     requires { ⌜ Lent (now class) (now trie) (now text) ⌝ }
     ensures { λ r. ⌜ Quiet (initializerIn (now (text .entry)) base parent) st r (now (rest .entry)) (now (rest .exit)) ⌝ }
 {
-    if st.kind != 45 {
-        return Parsed::On(st);
+    if st.kind == 45 {
+        return parse_number(class, trie, text, st, base, parent, rest);
     }
+    Parsed::On(st)
+}
+
+// The number of a member, its `=` ahead.
+fn parse_number(
+    class: &[u8; 256],
+    trie: &[u8; 512],
+    text: &[u8],
+    st: State,
+    base: u32,
+    parent: u32,
+    rest: &mut [u32],
+) -> Parsed
+    requires { ⌜ Lent (now class) (now trie) (now text) × (st .kind ≡ 45) ⌝ }
+    ensures { λ r. ⌜ Quiet (initializerIn (now (text .entry)) base parent) st r (now (rest .entry)) (now (rest .exit)) ⌝ }
+{
     let state = steps::advance(class, trie, text, st);
     if state.kind == 31 {
         return parse_fields::parse_leaf(class, trie, text, state, 31, 6, 27, base, parent, rest);

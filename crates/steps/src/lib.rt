@@ -143,8 +143,18 @@ pub fn expect(
     refuse(st, number)
 }
 
-// skip_separator (`separators`), skip_comments_discard (else).
+// skip_separator (`separators`), skip_comments_discard (else). The usual case, nothing to skip, is apart from the loop, so that it copies no state.
 pub fn skip(class: &[u8; 256], trie: &[u8; 512], text: &[u8], st: State, separators: bool) -> State
+    requires { ⌜ Lent (now class) (now trie) (now text) ⌝ }
+    ensures { λ r. ⌜ r ≡ passed (now (text .entry)) separators st ⌝ }
+{
+    if passes(st.kind, separators) {
+        return skip_all(class, trie, text, st, separators);
+    }
+    st
+}
+
+fn skip_all(class: &[u8; 256], trie: &[u8; 512], text: &[u8], st: State, separators: bool) -> State
     requires { ⌜ Lent (now class) (now trie) (now text) ⌝ }
     ensures { λ r. ⌜ r ≡ passed (now (text .entry)) separators st ⌝ }
 {
@@ -183,8 +193,28 @@ pub fn is_comment(kind: u32) -> bool
     kind == 49
 }
 
-// skip_comments, and with `separators` skip_trivia: the comments wait.
+// skip_comments, and with `separators` skip_trivia: the comments wait. The usual case is apart from the loop here too.
 pub fn skip_comments(
+    class: &[u8; 256],
+    trie: &[u8; 512],
+    text: &[u8],
+    st: State,
+    separators: bool,
+    comments: &mut [u32],
+) -> State
+    requires { ⌜ Lent (now class) (now trie) (now text) ⌝ }
+    ensures { λ r. ⌜ Keeps (skipCommentsIn (now (text .entry)) separators) st r (now (comments .entry)) (now (comments .exit)) ⌝ }
+{
+    if separators {
+        return skip_all_comments(class, trie, text, st, separators, comments);
+    }
+    if is_comment(st.kind) {
+        return skip_all_comments(class, trie, text, st, separators, comments);
+    }
+    st
+}
+
+fn skip_all_comments(
     class: &[u8; 256],
     trie: &[u8; 512],
     text: &[u8],

@@ -1,40 +1,12 @@
 -- `parse_fields::annotations::parse_annotations` meets its contract.
-use mathlib.Core.Path.{ap, _∙_}
-use Rattle.steps.proofs.Chain.{given, no, node, off, on, ret, yes}
+use Rattle.steps.proofs.Chain.{no, ret}
 use Rattle.parse_fields.proofs.Forms.{annotations-is}
-use Rattle.steps.specs.Into.{advanced}
-use Rattle.parse_fields.specs.Into.{annotationListIn}
 use borrow.Author.Needs.{needs}
 use Rattle.parse_fields.proofs.annotations.parse_annotations.Statement.{statement}
 use Rattle.parse_fields.proofs.annotations.parse_annotations.Tie as tie
 
-returns : tie.Need-returns
-returns c = λ u. ret _ _ _ _ (no _ _ _ _ _ (annotations-is (c .before .before .before .before .args .text .now) (c .before .before .before .before .args .base) (c .before .before .before .before .args .parent) (c .before .before .before .before .args .st) (c .before .before .before .before .args .rest .now) u) (c .if1 .taken))
-
-same-length : tie.Need-same-length
-same-length c = c .before .before .before .before .parse-annotation-list .kept .1 .1 .1 .1 .1 .1 .0
-
 returns-2 : tie.Need-returns-2
-returns-2 c = λ u. off _ _ _ (yes _ _ _ _ _ (annotations-is (c .before .before .before .before .before .before .before .before .before .before .before .before .args .text .now) (c .before .before .before .before .before .before .before .before .before .before .before .before .args .base) (c .before .before .before .before .before .before .before .before .before .before .before .before .args .parent) (c .before .before .before .before .before .before .before .before .before .before .before .before .args .st) (c .before .before .before .before .before .before .before .before .before .before .before .before .args .rest .now) u) (c .before .before .before .before .before .before .before .before .if1 .left)) _ _ _ _ _ (given (annotationListIn _ _ _) _ _ _ _ _ (c .before .before .before .before .before .before .advance .ensures ∙ ap (advanced _) (c .before .before .before .before .before .before .before .«open» .ensures)) (c .before .before .before .before .parse-annotation-list .ensures u)) (c .enum-told .given .1) _ _
-
-same-length-2 : tie.Need-same-length-2
-same-length-2 c = c .before .before .put-node .kept .0 ∙ c .before .before .before .before .before .before .before .before .before .before .before .parse-annotation-list .kept .1 .1 .1 .1 .1 .1 .0
-
-returns-3 : tie.Need-returns-3
-returns-3 c = λ u. node _ _ _ _ _ _ _ _ _ _ _ (on _ _ _ (yes _ _ _ _ _ (annotations-is (c .before .before .before .before .before .before .before .before .before .before .before .before .before .before .before .before .before .before .before .args .text .now) (c .before .before .before .before .before .before .before .before .before .before .before .before .before .before .before .before .before .before .before .args .base) (c .before .before .before .before .before .before .before .before .before .before .before .before .before .before .before .before .before .before .before .args .parent) (c .before .before .before .before .before .before .before .before .before .before .before .before .before .before .before .before .before .before .before .args .st) (c .before .before .before .before .before .before .before .before .before .before .before .before .before .before .before .before .before .before .before .args .rest .now) u) (c .before .before .before .before .before .before .before .before .before .before .before .before .before .before .before .if1 .left)) _ _ _ _ (given (annotationListIn _ _ _) _ _ _ _ _ (c .before .before .before .before .before .before .before .before .before .before .before .before .before .advance .ensures ∙ ap (advanced _) (c .before .before .before .before .before .before .before .before .before .before .before .before .before .before .«open» .ensures)) (c .before .before .before .before .before .before .before .before .before .before .before .parse-annotation-list .ensures u)) (c .before .before .before .before .before .before .before .read .given .1)) (c .before .before .put-node .ensures)
+returns-2 c = let a = c .before .before .before .before .args in λ u. ret _ _ _ _ (no _ _ _ _ _ (annotations-is (a .text .now) (a .base) (a .parent) (a .st) (a .rest .now) u) (c .if1 .left))
 
 pub parse-annotations-spec : {M : Type 1} → statement M
-parse-annotations-spec =
-    tie.close
-    (tie.spec
-    returns
-    (λ c κs. search needs)
-    (λ c κs. search needs)
-    (λ c κs. search needs)
-    (λ c. search needs)
-    (λ c. search needs)
-    same-length
-    returns-2
-    (λ c κs. search needs)
-    same-length-2
-    returns-3)
+parse-annotations-spec = tie.close (tie.spec (λ c κs. search needs) (λ c. search needs) (λ c. search needs) returns-2)

@@ -1,37 +1,12 @@
 -- `parse_members::enums::parse_initializer` meets its contract.
-use mathlib.Core.Path.{sym, ap, _∙_}
-use Rattle.steps.specs.declared.state.State.{State}
-use Rattle.steps.proofs.Chain.{given, last, no, ret, yes}
+use Rattle.steps.proofs.Chain.{no, ret}
 use Rattle.parse_members.proofs.Forms.{initializer-is}
-use Rattle.parse_fields.specs.Into.{tokenIn}
 use borrow.Author.Needs.{needs}
 use Rattle.parse_members.proofs.enums.parse_initializer.Statement.{statement}
 use Rattle.parse_members.proofs.enums.parse_initializer.Tie as tie
 
-returns : tie.Need-returns
-returns c = λ u. ret _ _ _ _ (no _ _ _ _ _ (initializer-is _ _ _ _ _ _) (c .if1 .taken))
-
-same-length : tie.Need-same-length
-same-length c = c .before .before .parse-leaf .kept .1 .1 .1 .1 .1 .1 .1 .1 .1 .0
-
 returns-2 : tie.Need-returns-2
-returns-2 c = λ u. last _ _ _ _ _ (yes _ _ _ _ _ (yes _ _ _ _ _ (initializer-is _ _ _ _ _ _) (c .before .before .before .before .before .before .before .if1 .left)) (ap (λ (x : State). x .kind) (sym (c .before .before .before .before .before .before .advance .ensures)) ∙ c .before .before .before .before .if2 .taken)) (given (tokenIn _ _ _ _ _ _) _ _ _ _ _ (c .before .before .before .before .before .before .advance .ensures) (c .before .before .parse-leaf .ensures u))
-
-same-length-2 : tie.Need-same-length-2
-same-length-2 c = c .before .before .parse-leaf2 .kept .1 .1 .1 .1 .1 .1 .1 .1 .1 .0
-
-returns-3 : tie.Need-returns-3
-returns-3 c = λ u. last _ _ _ _ _ (no _ _ _ _ _ (yes _ _ _ _ _ (initializer-is _ _ _ _ _ _) (c .before .before .before .before .before .before .before .if1 .left)) (λ h. c .before .before .before .before .if2 .left (ap (λ (x : State). x .kind) (c .before .before .before .before .before .before .advance .ensures) ∙ h))) (given (tokenIn _ _ _ _ _ _) _ _ _ _ _ (c .before .before .before .before .before .before .advance .ensures) (c .before .before .parse-leaf2 .ensures u))
+returns-2 c = λ u. ret _ _ _ _ (no _ _ _ _ _ (initializer-is _ _ _ _ _ _) (c .if1 .left))
 
 pub parse-initializer-spec : {M : Type 1} → statement M
-parse-initializer-spec =
-    tie.close
-    (tie.spec
-    returns
-    (λ c κs. search needs)
-    (λ c κs. search needs)
-    same-length
-    returns-2
-    (λ c κs. search needs)
-    same-length-2
-    returns-3)
+parse-initializer-spec = tie.close (tie.spec (λ c κs. search needs) (λ c. search needs) (λ c. search needs) returns-2)
