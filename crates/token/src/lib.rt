@@ -1,4 +1,6 @@
 // The kinds of token, under the names and in the order of rico's lexer/token.rs.
+pub mod kind;
+
 ghost use mathlib.Core.Path.{_≡_};
 ghost use Rattle.token.specs.Code.{code};
 
