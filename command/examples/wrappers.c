@@ -23,12 +23,12 @@ int main(void) {
     hirvelan_spot spot;
 
     expect(hirvelan_check_safe(NULL, 0, &answer) == HIRVELAN_OK && answer.number == 0, "check of null and 0 is an empty text");
-    expect(hirvelan_check_safe((const uint8_t *)"enum E{}@", 9, &answer) == HIRVELAN_OK && answer.number == 22 && answer.place == 8 && answer.length == 0, "check says where");
+    expect(hirvelan_check_safe((const uint8_t *)"enum E{}@", 9, &answer) == HIRVELAN_OK && answer.number == HIRVELAN_REFUSED_NO_TOKEN && answer.place == 8 && answer.length == 0, "check says where");
     expect(hirvelan_check_safe(NULL, 1, &answer) == HIRVELAN_NULL, "check of null and 1");
     expect(hirvelan_check_safe(text, n, NULL) == HIRVELAN_NULL, "check without a place for the answer");
 
     expect(hirvelan_read_safe(NULL, 0, NULL, 0, NULL, 0, &answer) == HIRVELAN_OK && answer.number == 0 && answer.nodes == 0, "read of nothing");
-    expect(hirvelan_read_safe(text, n, NULL, 0, NULL, 0, &answer) == HIRVELAN_OK && answer.number == 24, "read without tables is 24");
+    expect(hirvelan_read_safe(text, n, NULL, 0, NULL, 0, &answer) == HIRVELAN_OK && answer.number == HIRVELAN_REFUSED_NODES_FULL, "read without tables is 24");
     expect(hirvelan_read_safe(text, n, NULL, 9, NULL, 0, &answer) == HIRVELAN_NULL, "read with a null table of 9");
     expect(hirvelan_read_safe(text, n, shared, 200, shared + 100, 200, &answer) == HIRVELAN_OVERLAP, "read with tables that overlap");
     expect(hirvelan_read_safe(text, n, shared, 100, shared + 100, 200, &answer) == HIRVELAN_OK, "read with tables side by side");
@@ -36,13 +36,13 @@ int main(void) {
     expect(hirvelan_read_safe(text, n, (uint32_t *)(void *)((char *)shared + 1), 9, comments, 9, &answer) == HIRVELAN_UNALIGNED, "read into an odd address");
     expect(hirvelan_read_safe(text, n, nodes, (size_t)-1, comments, 9, &answer) == HIRVELAN_LENGTH, "read into more than there can be");
     expect(hirvelan_read_safe(text, n, nodes, HIRVELAN_NODES(n), comments, HIRVELAN_COMMENTS(n), NULL) == HIRVELAN_NULL, "read without a place for the answer");
-    expect(hirvelan_read_safe(text, n, nodes, HIRVELAN_NODES(n), comments, HIRVELAN_COMMENTS(n), &answer) == HIRVELAN_OK && answer.number == 0 && answer.nodes == 7 && nodes[0] == 7, "read");
+    expect(hirvelan_read_safe(text, n, nodes, HIRVELAN_NODES(n), comments, HIRVELAN_COMMENTS(n), &answer) == HIRVELAN_OK && answer.number == 0 && answer.nodes == 7 && nodes[0] == HIRVELAN_KIND_STRUCT, "read");
 
     expect(hirvelan_print_safe(text, n, 2, nodes, HIRVELAN_NODES(n), comments, HIRVELAN_COMMENTS(n), out, sizeof out, &answer) == HIRVELAN_OK && answer.number == 0 && answer.bytes == 38, "print of 38 bytes");
     expect(!memcmp(out, "struct A {\n  1: required i32 a = 5,\n}\n", 38), "what it prints");
-    expect(hirvelan_print_safe(text, n, 2, nodes, HIRVELAN_NODES(n), comments, HIRVELAN_COMMENTS(n), out, 37, &answer) == HIRVELAN_OK && answer.number == 27, "print into 37 bytes");
-    expect(hirvelan_print_safe(text, n, 2, nodes, HIRVELAN_NODES(n), comments, HIRVELAN_COMMENTS(n), NULL, 0, &answer) == HIRVELAN_OK && answer.number == 27, "print into nothing");
-    expect(hirvelan_print_safe(text, n, 9, nodes, HIRVELAN_NODES(n), comments, HIRVELAN_COMMENTS(n), out, sizeof out, &answer) == HIRVELAN_OK && answer.number == 26, "print at 9");
+    expect(hirvelan_print_safe(text, n, 2, nodes, HIRVELAN_NODES(n), comments, HIRVELAN_COMMENTS(n), out, 37, &answer) == HIRVELAN_OK && answer.number == HIRVELAN_REFUSED_OUTPUT_FULL, "print into 37 bytes");
+    expect(hirvelan_print_safe(text, n, 2, nodes, HIRVELAN_NODES(n), comments, HIRVELAN_COMMENTS(n), NULL, 0, &answer) == HIRVELAN_OK && answer.number == HIRVELAN_REFUSED_OUTPUT_FULL, "print into nothing");
+    expect(hirvelan_print_safe(text, n, 9, nodes, HIRVELAN_NODES(n), comments, HIRVELAN_COMMENTS(n), out, sizeof out, &answer) == HIRVELAN_OK && answer.number == HIRVELAN_REFUSED_INDENT_TOO_WIDE, "print at 9");
     expect(hirvelan_print_safe(text, n, 2, nodes, HIRVELAN_NODES(n), comments, HIRVELAN_COMMENTS(n), NULL, 64, &answer) == HIRVELAN_NULL, "print into null and 64");
     expect(hirvelan_print_safe(text, n, 2, nodes, HIRVELAN_NODES(n), comments, HIRVELAN_COMMENTS(n), (uint8_t *)nodes + 8, 8, &answer) == HIRVELAN_OVERLAP, "print into a table");
 

@@ -3,6 +3,7 @@
 use crate::explain;
 use crate::files::Trouble;
 use crate::json::Object;
+use hirvelan::numbers::refusal::NO_TOKEN;
 use hirvelan::Refusal;
 use std::ffi::OsStr;
 
@@ -48,7 +49,7 @@ fn excerpt(text: &[u8], offset: usize, column: usize) -> String {
 
 /// What stands at an offset, if it is hard to see.
 fn culprit(text: &[u8], refusal: &Refusal) -> String {
-    if refusal.number != 22 {
+    if refusal.number != NO_TOKEN {
         return String::new();
     }
     let rest = text.get(refusal.place as usize..).unwrap_or_default();

@@ -6,6 +6,7 @@
 //! - pointers are not null and valid for their lengths: each comes from a slice;
 //! - nothing that is lent for writing overlaps: each table is an allocation of its own or the caller's `&mut`, and the text is borrowed for reading only.
 
+pub mod numbers;
 mod raw;
 
 /// The longest text that is read; a longer one is refused with 20.
@@ -98,7 +99,7 @@ pub fn print(text: &[u8], indent: u32) -> Result<Vec<u8>, Refusal> {
             out.truncate(bytes as usize);
             return Ok(out);
         }
-        if number != 27 || room >= LONGEST_PRINT {
+        if number != u64::from(numbers::refusal::OUTPUT_FULL) || room >= LONGEST_PRINT {
             return Err(Refusal { number: number as u32, place: a as u32, length: b as u32 });
         }
         room *= 2;

@@ -1,4 +1,5 @@
 pub mod Ast
+pub mod Kind
 pub mod Tree
 pub mod Records
 pub mod Lists

@@ -8,6 +8,7 @@ use Rattle.token.specs.declared.Token.the-variants as T
 use Rattle.lexer.specs.declared.location.LOC.{LOC}
 use Rattle.lexer.specs.Tokens.{Lexeme, lexeme}
 use Rattle.ast.specs.Ast.{Definition}
+use Rattle.ast.specs.Kind as K
 use Rattle.ast.specs.Tree.{Tree, node, Forest, bare, grown, each, definitionTree}
 
 -- THE RECORD'S WIDTH
@@ -41,9 +42,9 @@ unfoldable mutual
   rowsOf bare p n = []
   rowsOf (grown t ts) p n = rows t p n ++ rowsOf ts p (n + size t)
 
--- 32 line comment, 33 block comment; a comment's parent is its owner
+-- a comment's parent is its owner
 unfoldable pub commentRow : ℕ → Lexeme → List ℕ
-commentRow owner (lexeme t w l) = row (cond (is t T.LineComment) 32 33) owner 0 l
+commentRow owner (lexeme t w l) = row (cond (is t T.LineComment) K.LineComment K.BlockComment) owner 0 l
 
 unfoldable pub owned : ℕ → List Lexeme → List (List ℕ)
 owned owner [] = []

@@ -8,6 +8,7 @@ use Rattle.token.specs.declared.Token.{Token}
 use Rattle.token.specs.declared.Token.the-variants as T
 use Rattle.lexer.specs.declared.location.LOC.{LOC}
 use Rattle.lexer.specs.Tokens.{Lexeme, lexeme}
+use Rattle.ast.specs.Kind as K
 use Rattle.ast.specs.Ast.{
   FieldType,
   CommonType,
@@ -85,35 +86,31 @@ unfoldable pub perhaps : {A : Type 0} → (A → Tree) → Option A → Forest �
 perhaps f none r = r
 perhaps f (some x) r = grown (f x) r
 
--- 16 name, 17 field id
 unfoldable pub nameTree : Lexeme → Tree
-nameTree t = leaf 16 t
+nameTree t = leaf K.Name t
 
 unfoldable pub idTree : Lexeme → Tree
-idTree t = leaf 17 t
+idTree t = leaf K.FieldId t
 
--- 18 keyword type (void too), 19 named type, 20 list, 21 set, 22 map
 unfoldable pub typeTree : FieldType → Tree
-typeTree (CommonType (lexeme t w l)) = leaf (cond (is t T.Identifier) 19 18) (lexeme t w l)
-typeTree (ListType l k t) = inner 20 l (single (typeTree t))
-typeTree (SetType l k t) = inner 21 l (single (typeTree t))
-typeTree (MapType l k a b) = inner 22 l (both (typeTree a) (typeTree b))
+typeTree (CommonType (lexeme t w l)) = leaf (cond (is t T.Identifier) K.NamedType K.KeywordType) (lexeme t w l)
+typeTree (ListType l k t) = inner K.List l (single (typeTree t))
+typeTree (SetType l k t) = inner K.Set l (single (typeTree t))
+typeTree (MapType l k a b) = inner K.Map l (both (typeTree a) (typeTree b))
 
--- 23 string, 24 integer, 25 double, 26 boolean, 27 hex, 28 name as value
 unfoldable pub valueKind : Token → ℕ
 valueKind t =
-    cond (is t T.StringLiteral) 23
-    (cond (is t T.IntegerLiteral) 24 (cond (is t T.DoubleLiteral) 25 (cond (is t T.BooleanLiteral) 26 (cond (is t T.HexLiteral) 27 28))))
+    cond (is t T.StringLiteral) K.String
+    (cond (is t T.IntegerLiteral) K.Integer (cond (is t T.DoubleLiteral) K.Double (cond (is t T.BooleanLiteral) K.Boolean (cond (is t T.HexLiteral) K.Hex K.NameValue))))
 
 unfoldable pub literalTree : Lexeme → Tree
 literalTree (lexeme t w l) = leaf (valueKind t) (lexeme t w l)
 
--- 29 list value, 30 map value, 31 property
 unfoldable mutual
   pub valueTree : FieldInitialValue → Tree
   valueTree (ConstValue t) = literalTree t
-  valueTree (ConstList l vs) = inner 29 l (elementTrees vs)
-  valueTree (ConstMap l ps) = inner 30 l (propertyTrees ps)
+  valueTree (ConstList l vs) = inner K.ListValue l (elementTrees vs)
+  valueTree (ConstMap l ps) = inner K.MapValue l (propertyTrees ps)
 
   pub elementTrees : Elements → Forest
   elementTrees nil = bare
@@ -121,63 +118,57 @@ unfoldable mutual
 
   pub propertyTrees : Properties → Forest
   propertyTrees pnil = bare
-  propertyTrees (pcons l k v ps) = grown (inner 31 l (both (valueTree k) (valueTree v))) (propertyTrees ps)
+  propertyTrees (pcons l k v ps) = grown (inner K.Property l (both (valueTree k) (valueTree v))) (propertyTrees ps)
 
--- 14 annotations, 15 annotation
 unfoldable pub annotationTree : Annotation → Tree
-annotationTree (annotation l n v) = inner 15 l (both (nameTree n) (literalTree v))
+annotationTree (annotation l n v) = inner K.Annotation l (both (nameTree n) (literalTree v))
 
 unfoldable pub annotationsTree : Annotations → Forest → Forest
 annotationsTree absent r = r
-annotationsTree (annotations l xs) r = grown (inner 14 l (each annotationTree xs bare)) r
+annotationsTree (annotations l xs) r = grown (inner K.Annotations l (each annotationTree xs bare)) r
 
--- flags: 1 required, 2 optional; 4 oneway, 8 throws written; 16 a thrown field
 unfoldable pub requiredFlag : Required → ℕ
 requiredFlag default = 0
-requiredFlag required = 1
-requiredFlag optional = 2
+requiredFlag required = K.Required
+requiredFlag optional = K.Optional
 
--- 12 field, with a further flag
+-- a field, with a further flag
 unfoldable pub fieldTree : ℕ → Field → Tree
 fieldTree f (field l c i r t n v a) =
-    node 12 (requiredFlag r + f) l [] c (perhaps idTree i (grown (typeTree t) (grown (nameTree n) (perhaps valueTree v (annotationsTree a bare)))))
+    node K.Field (requiredFlag r + f) l [] c (perhaps idTree i (grown (typeTree t) (grown (nameTree n) (perhaps valueTree v (annotationsTree a bare)))))
 
--- 13 enum member
 unfoldable pub memberTree : EnumMember → Tree
-memberTree (member l c n v a) = node 13 0 l [] c (grown (nameTree n) (perhaps literalTree v (annotationsTree a bare)))
+memberTree (member l c n v a) = node K.EnumMember 0 l [] c (grown (nameTree n) (perhaps literalTree v (annotationsTree a bare)))
 
--- 11 function
 unfoldable pub onewayFlag : Bool → ℕ
-onewayFlag true = 4
+onewayFlag true = K.Oneway
 onewayFlag false = 0
 
 unfoldable pub throwsFlag : Option (List Field) → ℕ
 throwsFlag none = 0
-throwsFlag (some fs) = 8
+throwsFlag (some fs) = K.Throws
 
 unfoldable pub throwsTrees : Option (List Field) → Forest → Forest
 throwsTrees none r = r
-throwsTrees (some fs) r = each (fieldTree 16) fs r
+throwsTrees (some fs) r = each (fieldTree K.Thrown) fs r
 
 unfoldable pub functionTree : Function → Tree
 functionTree (function l c o t n ps th a) =
-    node 11 (onewayFlag o + throwsFlag th) l [] c
+    node K.Function (onewayFlag o + throwsFlag th) l [] c
     (grown (typeTree t) (grown (nameTree n) (each (fieldTree 0) ps (throwsTrees th (annotationsTree a bare)))))
 
--- 7 struct, 8 union, 9 exception
 unfoldable pub structureKind : Structure → ℕ
-structureKind Struct = 7
-structureKind Union = 8
-structureKind Exception = 9
+structureKind Struct = K.Struct
+structureKind Union = K.Union
+structureKind Exception = K.Exception
 
--- 1 include, 2 cpp_include, 3 namespace, 4 const, 5 typedef, 6 enum, 10 service
 unfoldable pub definitionTree : Definition → Tree
-definitionTree (Include l c n) = node 1 0 l [] c (single (nameTree n))
-definitionTree (CppInclude l c n) = node 2 0 l [] c (single (nameTree n))
-definitionTree (Namespace l c s n) = node 3 0 l [] c (both (nameTree s) (nameTree n))
-definitionTree (Const l c t n v) = node 4 0 l [] c (grown (typeTree t) (both (nameTree n) (valueTree v)))
-definitionTree (Typedef l c t n) = node 5 0 l [] c (both (typeTree t) (nameTree n))
-definitionTree (Enum l c n ms a) = node 6 0 l [] c (grown (nameTree n) (each memberTree ms (annotationsTree a bare)))
+definitionTree (Include l c n) = node K.Include 0 l [] c (single (nameTree n))
+definitionTree (CppInclude l c n) = node K.CppInclude 0 l [] c (single (nameTree n))
+definitionTree (Namespace l c s n) = node K.Namespace 0 l [] c (both (nameTree s) (nameTree n))
+definitionTree (Const l c t n v) = node K.Const 0 l [] c (grown (typeTree t) (both (nameTree n) (valueTree v)))
+definitionTree (Typedef l c t n) = node K.Typedef 0 l [] c (both (typeTree t) (nameTree n))
+definitionTree (Enum l c n ms a) = node K.Enum 0 l [] c (grown (nameTree n) (each memberTree ms (annotationsTree a bare)))
 definitionTree (structure s l c n fs a) = node (structureKind s) 0 l [] c (grown (nameTree n) (each (fieldTree 0) fs (annotationsTree a bare)))
 definitionTree (Service l c n x fs a) =
-    node 10 0 l [] c (grown (nameTree n) (perhaps nameTree x (each functionTree fs (annotationsTree a bare))))
+    node K.Service 0 l [] c (grown (nameTree n) (perhaps nameTree x (each functionTree fs (annotationsTree a bare))))

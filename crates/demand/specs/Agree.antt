@@ -8,12 +8,13 @@ use Rattle.lexer.specs.Tokens.{Lexeme, lexeme}
 use Rattle.ast.specs.Ast.{Definition}
 use Rattle.ast.specs.Lists.{maps}
 use Rattle.ast.specs.Drop.{dropParams}
+use Rattle.ast.specs.Kind as K
 use Rattle.ast.specs.Tree.{Tree, node, Forest, bare, grown}
 use Rattle.ast.specs.Records.{forest}
 
--- the kinds whose bytes count: 16 names, 17 ids (the writer writes a token's own bytes), 18 and 19 types, 23 to 28 values
+-- the kinds whose bytes count: names, ids (the writer writes a token's own bytes), types of one token, values of one token
 unfoldable pub bytesCount : ℕ → Bool
-bytesCount k = leb 16 k && leb k 19 || leb 23 k && leb k 28
+bytesCount k = leb K.Name k && leb k K.NamedType || leb K.String k && leb k K.NameValue
 
 -- what counts of a tree: kind, flags, the bytes of those kinds, the bytes of its comments in order, its children
 mutual

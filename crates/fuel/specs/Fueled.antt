@@ -6,6 +6,7 @@ use Prim.Native.Nat.{ℕ, suc, zero}
 use Rattle.token.specs.Code.{is}
 use Rattle.token.specs.declared.Token.{Token}
 use Rattle.token.specs.declared.Token.the-variants as T
+use Rattle.lexer.specs.Error.{UnexpectedToken, InvalidFieldName, MissingConstIdentifier, MissingEnumIdentifier, MissingStructIdentifier, MissingServiceIdentifier, InvalidEnumMemberName, TooDeep}
 use Rattle.lexer.specs.Outcome.{Outcome, accepted, refused}
 use Rattle.lexer.specs.Location.{between, opening}
 use Rattle.lexer.specs.Tokens.{Lexeme, tokens}
@@ -78,7 +79,7 @@ unfoldable pub containerValue : ℕ → P FieldInitialValue → Lexeme → P Fie
 containerValue n value t = test (is (kind t) T.LeftBracket) (listValue n value t) (mapValue n value t)
 
 unfoldable pub fieldValue : ℕ → ℕ → P FieldInitialValue
-fieldValue n zero = valueBy (refuse 23)
+fieldValue n zero = valueBy (refuse TooDeep)
 fieldValue n (suc d) = valueBy (containerValue n (fieldValue n d))
 
 unfoldable pub parseValue : ℕ → P FieldInitialValue
@@ -109,7 +110,7 @@ parseField n = do
   i ← parseFieldId
   r ← parseRequired
   t ← parseType
-  m ← want fieldNames 8
+  m ← want fieldNames InvalidFieldName
   v ← parseDefault n
   a ← parseAnnotations n
   e ← here
@@ -117,7 +118,7 @@ parseField n = do
 
 unfoldable pub parseMembers : {A : Type 0} → ℕ → Token → Token → P A → P (List A)
 parseMembers n l r p = do
-  want (l ∷ []) 2
+  want (l ∷ []) UnexpectedToken
   loop [] _∷_ (membersEnd r) p n
 
 unfoldable pub parseParameters : ℕ → P (List Field)
@@ -133,7 +134,7 @@ parseFunction n = do
   c ← taken
   o ← parseOneway
   t ← parseReturnType
-  m ← want (T.Identifier ∷ []) 2
+  m ← want (T.Identifier ∷ []) UnexpectedToken
   ps ← parseParameters n
   th ← parseThrows n
   skip-trivia
@@ -146,7 +147,7 @@ parseFunction n = do
 unfoldable pub parseEnumMember : ℕ → P EnumMember
 parseEnumMember n = do
   c ← taken
-  m ← want (T.Identifier ∷ []) 19
+  m ← want (T.Identifier ∷ []) InvalidEnumMemberName
   v ← parseInitializer
   a ← parseAnnotations n
   e ← here
@@ -159,8 +160,8 @@ parseConst n = do
   c ← taken
   k ← next
   t ← parseType
-  m ← want (T.Identifier ∷ []) 13
-  want (T.Equals ∷ []) 2
+  m ← want (T.Identifier ∷ []) MissingConstIdentifier
+  want (T.Equals ∷ []) UnexpectedToken
   v ← parseValue n
   e ← here
   skip-trivia
@@ -170,7 +171,7 @@ unfoldable pub parseEnum : ℕ → P Definition
 parseEnum n = do
   c ← taken
   k ← next
-  m ← want (T.Identifier ∷ []) 15
+  m ← want (T.Identifier ∷ []) MissingEnumIdentifier
   xs ← parseMembers n T.LeftBrace T.RightBrace (parseEnumMember n)
   a ← parseAnnotations n
   e ← here
@@ -180,7 +181,7 @@ unfoldable pub parseStructure : ℕ → Structure → P Definition
 parseStructure n s = do
   c ← taken
   k ← next
-  m ← want (T.Identifier ∷ []) 16
+  m ← want (T.Identifier ∷ []) MissingStructIdentifier
   xs ← parseMembers n T.LeftBrace T.RightBrace (parseField n)
   a ← parseAnnotations n
   e ← here
@@ -190,7 +191,7 @@ unfoldable pub parseService : ℕ → P Definition
 parseService n = do
   c ← taken
   k ← next
-  m ← want (T.Identifier ∷ []) 17
+  m ← want (T.Identifier ∷ []) MissingServiceIdentifier
   x ← parseExtends
   xs ← parseMembers n T.LeftBrace T.RightBrace (parseFunction n)
   a ← parseAnnotations n
@@ -209,7 +210,7 @@ parseDefinition n =
     (when (T.Union ∷ []) (parseStructure n Union)
     (when (T.Exception ∷ []) (parseStructure n Exception)
     (when (T.Service ∷ []) (parseService n)
-    (fail 2))))))))))
+    (fail UnexpectedToken))))))))))
 
 unfoldable pub parseDocument : ℕ → P (List Definition)
 parseDocument n = loop [] _∷_ documentEnd (parseDefinition n) n

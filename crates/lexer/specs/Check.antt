@@ -6,6 +6,7 @@ use mathlib.Core.Option.{Option, some, none}
 use lib.Dec.{ltb}
 use lib.ListN.{length}
 use Rattle.utf8.specs.Utf8.{illFormed}
+use Rattle.lexer.specs.Error.{TextTooLong, NotUtf8, NoToken}
 use Rattle.lexer.specs.Outcome.{Outcome, accepted, refused}
 use Rattle.lexer.specs.Cuts.{cuts, unrecognized}
 use Rattle.lexer.specs.declared.Checked.{Checked}
@@ -17,16 +18,16 @@ limit = 65536
 
 -- the bytes come before the tokens
 unfoldable pub verdict : Option ℕ → Option ℕ → Outcome (List ℕ)
-verdict (some p) u = refused 21 p 0
-verdict none (some p) = refused 22 p 0
+verdict (some p) u = refused NotUtf8 p 0
+verdict none (some p) = refused NoToken p 0
 verdict none none = accepted []
 
 unfoldable pub checked : List ℕ → Outcome (List ℕ)
-checked t = cond (ltb limit (length t)) (refused 20 0 0) (verdict (illFormed t) (unrecognized (cuts t) 0))
+checked t = cond (ltb limit (length t)) (refused TextTooLong 0 0) (verdict (illFormed t) (unrecognized (cuts t) 0))
 
 -- what each case of the code's answer says
 unfoldable pub refusal : Checked → Outcome (List ℕ)
 refusal Fine = accepted []
-refusal TooLong = refused 20 0 0
-refusal (IllFormed p) = refused 21 p 0
-refusal (Unrecognized p) = refused 22 p 0
+refusal TooLong = refused TextTooLong 0 0
+refusal (IllFormed p) = refused NotUtf8 p 0
+refusal (Unrecognized p) = refused NoToken p 0

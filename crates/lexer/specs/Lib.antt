@@ -1,3 +1,4 @@
+pub mod Error
 pub mod Outcome
 pub mod Cuts
 pub mod Location

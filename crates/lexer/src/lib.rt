@@ -1,4 +1,5 @@
 // The lexer: from any byte string to its tokens, proved.
+pub mod error;
 pub mod location;
 pub mod table;
 
@@ -40,10 +41,10 @@ pub fn skipped(token: Token) -> bool
     ensures { λ r. ⌜ r ≡ skipped token ⌝ }
 {
     let code = token.code();
-    if code == 51 {
+    if code == token::kind::BLANK {
         return true;
     }
-    code == 0
+    code == token::kind::NEWLINE
 }
 
 // The token of one byte that stands at the lexer's offset, by the byte's class.

@@ -114,12 +114,12 @@ pub fn pass_lexeme(token: Token, bytes: &[u8], lexer: Lexer) -> Lexer
     ensures { λ r. ⌜ r ≡ pass (now (bytes .entry)) token lexer ⌝ }
 {
     let code = token.code();
-    if code == 49 {
+    if code == token::kind::BLOCK_COMMENT {
         return pass_block(bytes, lexer);
     }
     let n = bytes.len() as u32;
     let at = lexer.at + n;
-    if code == 0 {
+    if code == token::kind::NEWLINE {
         return Lexer {
             at,
             line: lexer.line + n,

@@ -10,6 +10,7 @@ ghost use Rattle.place.specs.Place.{placeOf};
 ghost use Rattle.file.specs.Run.{requestsOf, memory, runs, Unaltered};
 ghost use Rattle.link.specs.Told.{laid, three};
 use lexer::Checked;
+use lexer::error;
 use parser::Answer;
 use writer::Printed;
 
@@ -54,15 +55,15 @@ pub extern "C" fn hirvelan_check(text: &[u8], answer: &mut [u32])
             fill_u32(answer, &told);
         }
         Checked::TooLong => {
-            let told = [20, 0, 0];
+            let told = [error::TEXT_TOO_LONG, 0, 0];
             fill_u32(answer, &told);
         }
         Checked::IllFormed(at) => {
-            let told = [21, at as u32, 0];
+            let told = [error::NOT_UTF8, at as u32, 0];
             fill_u32(answer, &told);
         }
         Checked::Unrecognized(at) => {
-            let told = [22, at as u32, 0];
+            let told = [error::NO_TOKEN, at as u32, 0];
             fill_u32(answer, &told);
         }
     }

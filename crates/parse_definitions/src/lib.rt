@@ -1,6 +1,7 @@
 // Definitions, the keyword ahead (rico's parser/definitions.rs); `rest` is lent from the definition's own record on.
 ghost use Rattle.steps.specs.Into.{Puts, Keeps, Lent, Reads, Quiet};
 ghost use Rattle.parse_definitions.specs.Into.{beginIn, ownRecordIn, includeIn, scopeIn, namespaceIn, typedNameIn, constIn, typedefIn, enumIn, structureIn, extendsIn, serviceHeadIn, serviceIn, definitionIn};
+use lexer::error;
 use parse_fields::annotations;
 use parse_fields::fields;
 use parse_members::enums;
@@ -49,9 +50,9 @@ fn parse_include(
         trie,
         text,
         begun,
-        29,
-        12,
-        16,
+        token::kind::STRING_LITERAL,
+        error::MISSING_INCLUDE_IDENTIFIER,
+        ast::kind::NAME,
         st.next,
         st.next,
         rest,
@@ -76,10 +77,30 @@ fn parse_scope(
     requires { ⌜ Lent (now class) (now trie) (now text) ⌝ }
     ensures { λ r. ⌜ Quiet (scopeIn (now (text .entry)) base parent) st r (now (rest .entry)) (now (rest .exit)) ⌝ }
 {
-    if st.kind == 47 {
-        return parse_fields::parse_leaf(class, trie, text, st, 47, 11, 16, base, parent, rest);
+    if st.kind == token::kind::STAR {
+        return parse_fields::parse_leaf(
+            class,
+            trie,
+            text,
+            st,
+            token::kind::STAR,
+            error::MISSING_NAMESPACE_SCOPE,
+            ast::kind::NAME,
+            base,
+            parent,
+            rest,
+        );
     }
-    parse_fields::parse_name(class, trie, text, st, 11, base, parent, rest)
+    parse_fields::parse_name(
+        class,
+        trie,
+        text,
+        st,
+        error::MISSING_NAMESPACE_SCOPE,
+        base,
+        parent,
+        rest,
+    )
 }
 
 // parse_namespace
@@ -99,11 +120,20 @@ fn parse_namespace(
     let Parsed::On(scoped) = scope else {
         return scope;
     };
-    let name = parse_fields::parse_name(class, trie, text, scoped, 10, st.next, st.next, rest);
+    let name = parse_fields::parse_name(
+        class,
+        trie,
+        text,
+        scoped,
+        error::MISSING_NAMESPACE_IDENTIFIER,
+        st.next,
+        st.next,
+        rest,
+    );
     let Parsed::On(state) = name else {
         return name;
     };
-    close(rest, st, state, 3);
+    close(rest, st, state, ast::kind::NAMESPACE);
     Parsed::On(state)
 }
 
@@ -141,11 +171,27 @@ fn parse_const(
     ensures { λ r. ⌜ Reads (constIn (now (text .entry))) st r (now (rest .entry)) (now (rest .exit)) (now (comments .entry)) (now (comments .exit)) ⌝ }
 {
     let begun = begin(class, trie, text, st, comments);
-    let head = parse_typed_name(class, trie, text, begun, 13, st.next, st.next, rest);
+    let head = parse_typed_name(
+        class,
+        trie,
+        text,
+        begun,
+        error::MISSING_CONST_IDENTIFIER,
+        st.next,
+        st.next,
+        rest,
+    );
     let Parsed::On(named) = head else {
         return head;
     };
-    let equals = steps::expect(class, trie, text, named, 45, 2);
+    let equals = steps::expect(
+        class,
+        trie,
+        text,
+        named,
+        token::kind::EQUALS,
+        error::UNEXPECTED_TOKEN,
+    );
     let Parsed::On(behind) = equals else {
         return equals;
     };
@@ -153,7 +199,7 @@ fn parse_const(
     let Parsed::On(state) = value else {
         return value;
     };
-    close(rest, st, state, 4);
+    close(rest, st, state, ast::kind::CONST);
     Parsed::On(steps::skip_comments(class, trie, text, state, true, comments))
 }
 
@@ -170,11 +216,20 @@ fn parse_typedef(
     ensures { λ r. ⌜ Reads (typedefIn (now (text .entry))) st r (now (rest .entry)) (now (rest .exit)) (now (comments .entry)) (now (comments .exit)) ⌝ }
 {
     let begun = begin(class, trie, text, st, comments);
-    let head = parse_typed_name(class, trie, text, begun, 14, st.next, st.next, rest);
+    let head = parse_typed_name(
+        class,
+        trie,
+        text,
+        begun,
+        error::MISSING_TYPEDEF_IDENTIFIER,
+        st.next,
+        st.next,
+        rest,
+    );
     let Parsed::On(state) = head else {
         return head;
     };
-    close(rest, st, state, 5);
+    close(rest, st, state, ast::kind::TYPEDEF);
     Parsed::On(state)
 }
 
@@ -191,7 +246,16 @@ fn parse_enum(
     ensures { λ r. ⌜ Reads (enumIn (now (text .entry))) st r (now (rest .entry)) (now (rest .exit)) (now (comments .entry)) (now (comments .exit)) ⌝ }
 {
     let begun = begin(class, trie, text, st, comments);
-    let name = parse_fields::parse_name(class, trie, text, begun, 15, st.next, st.next, rest);
+    let name = parse_fields::parse_name(
+        class,
+        trie,
+        text,
+        begun,
+        error::MISSING_ENUM_IDENTIFIER,
+        st.next,
+        st.next,
+        rest,
+    );
     let Parsed::On(named) = name else {
         return name;
     };
@@ -212,7 +276,7 @@ fn parse_enum(
     let Parsed::On(state) = read else {
         return read;
     };
-    close(rest, st, state, 6);
+    close(rest, st, state, ast::kind::ENUM);
     Parsed::On(state)
 }
 
@@ -230,7 +294,16 @@ fn parse_structure(
     ensures { λ r. ⌜ Reads (structureIn (now (text .entry)) kind) st r (now (rest .entry)) (now (rest .exit)) (now (comments .entry)) (now (comments .exit)) ⌝ }
 {
     let begun = begin(class, trie, text, st, comments);
-    let name = parse_fields::parse_name(class, trie, text, begun, 16, st.next, st.next, rest);
+    let name = parse_fields::parse_name(
+        class,
+        trie,
+        text,
+        begun,
+        error::MISSING_STRUCT_IDENTIFIER,
+        st.next,
+        st.next,
+        rest,
+    );
     let Parsed::On(named) = name else {
         return name;
     };
@@ -239,8 +312,8 @@ fn parse_structure(
         trie,
         text,
         named,
-        34,
-        35,
+        token::kind::LEFT_BRACE,
+        token::kind::RIGHT_BRACE,
         0,
         st.next,
         st.next,
@@ -271,11 +344,20 @@ fn parse_extends(
     requires { ⌜ Lent (now class) (now trie) (now text) ⌝ }
     ensures { λ r. ⌜ Quiet (extendsIn (now (text .entry)) base parent) st r (now (rest .entry)) (now (rest .exit)) ⌝ }
 {
-    if st.kind != 11 {
+    if st.kind != token::kind::EXTENDS {
         return Parsed::On(st);
     }
     let state = steps::advance(class, trie, text, st);
-    parse_fields::parse_name(class, trie, text, state, 18, base, parent, rest)
+    parse_fields::parse_name(
+        class,
+        trie,
+        text,
+        state,
+        error::MISSING_SERVICE_EXTENDS,
+        base,
+        parent,
+        rest,
+    )
 }
 
 // The name of a service, and what it extends.
@@ -291,7 +373,16 @@ fn parse_service_head(
     requires { ⌜ Lent (now class) (now trie) (now text) ⌝ }
     ensures { λ r. ⌜ Quiet (serviceHeadIn (now (text .entry)) base parent) st r (now (rest .entry)) (now (rest .exit)) ⌝ }
 {
-    let name = parse_fields::parse_name(class, trie, text, st, 17, base, parent, rest);
+    let name = parse_fields::parse_name(
+        class,
+        trie,
+        text,
+        st,
+        error::MISSING_SERVICE_IDENTIFIER,
+        base,
+        parent,
+        rest,
+    );
     let Parsed::On(named) = name else {
         return name;
     };
@@ -332,7 +423,7 @@ fn parse_service(
     let Parsed::On(state) = read else {
         return read;
     };
-    close(rest, st, state, 10);
+    close(rest, st, state, ast::kind::SERVICE);
     Parsed::On(state)
 }
 
@@ -348,35 +439,43 @@ pub fn parse_definition(
     requires { ⌜ Lent (now class) (now trie) (now text) ⌝ }
     ensures { λ r. ⌜ Reads (definitionIn (now (text .entry))) st r (now (rest .entry)) (now (rest .exit)) (now (comments .entry)) (now (comments .exit)) ⌝ }
 {
-    if st.kind == 1 {
+    if st.kind == token::kind::NAMESPACE {
         return parse_namespace(class, trie, text, st, rest, comments);
     }
-    if st.kind == 2 {
-        return parse_include(class, trie, text, st, 2, rest, comments);
+    if st.kind == token::kind::CPP_INCLUDE {
+        return parse_include(
+            class,
+            trie,
+            text,
+            st,
+            ast::kind::CPP_INCLUDE,
+            rest,
+            comments,
+        );
     }
-    if st.kind == 3 {
-        return parse_include(class, trie, text, st, 1, rest, comments);
+    if st.kind == token::kind::INCLUDE {
+        return parse_include(class, trie, text, st, ast::kind::INCLUDE, rest, comments);
     }
-    if st.kind == 4 {
+    if st.kind == token::kind::TYPEDEF {
         return parse_typedef(class, trie, text, st, rest, comments);
     }
-    if st.kind == 5 {
+    if st.kind == token::kind::CONST {
         return parse_const(class, trie, text, st, rest, comments);
     }
-    if st.kind == 6 {
+    if st.kind == token::kind::ENUM {
         return parse_enum(class, trie, text, st, rest, comments);
     }
-    if st.kind == 7 {
-        return parse_structure(class, trie, text, st, 7, rest, comments);
+    if st.kind == token::kind::STRUCT {
+        return parse_structure(class, trie, text, st, ast::kind::STRUCT, rest, comments);
     }
-    if st.kind == 8 {
-        return parse_structure(class, trie, text, st, 8, rest, comments);
+    if st.kind == token::kind::UNION {
+        return parse_structure(class, trie, text, st, ast::kind::UNION, rest, comments);
     }
-    if st.kind == 9 {
-        return parse_structure(class, trie, text, st, 9, rest, comments);
+    if st.kind == token::kind::EXCEPTION {
+        return parse_structure(class, trie, text, st, ast::kind::EXCEPTION, rest, comments);
     }
-    if st.kind == 10 {
+    if st.kind == token::kind::SERVICE {
         return parse_service(class, trie, text, st, rest, comments);
     }
-    steps::refuse(st, 2)
+    steps::refuse(st, error::UNEXPECTED_TOKEN)
 }

@@ -2,6 +2,7 @@
 ghost use mathlib.Core.Path.{_≡_};
 ghost use Rattle.steps.specs.Into.{Lent, Quiet};
 ghost use Rattle.parse_fields.specs.Into.{annotationIn, annotationListIn, annotationsIn};
+use lexer::error;
 use steps::state::Parsed;
 use steps::state::State;
 use steps::table;
@@ -20,21 +21,57 @@ fn parse_annotation(
     ensures { λ r. ⌜ Quiet (annotationIn (now (text .entry)) base parent) st r (now (rest .entry)) (now (rest .exit)) ⌝ }
 {
     let opened = table::open(st);
-    let name = crate::parse_name(class, trie, text, opened, 2, base, st.next, rest);
+    let name = crate::parse_name(
+        class,
+        trie,
+        text,
+        opened,
+        error::UNEXPECTED_TOKEN,
+        base,
+        st.next,
+        rest,
+    );
     let Parsed::On(named) = name else {
         return name;
     };
-    let equals = steps::expect(class, trie, text, named, 45, 2);
+    let equals = steps::expect(
+        class,
+        trie,
+        text,
+        named,
+        token::kind::EQUALS,
+        error::UNEXPECTED_TOKEN,
+    );
     let Parsed::On(behind) = equals else {
         return equals;
     };
-    let value = crate::parse_leaf(class, trie, text, behind, 29, 2, 23, base, st.next, rest);
+    let value = crate::parse_leaf(
+        class,
+        trie,
+        text,
+        behind,
+        token::kind::STRING_LITERAL,
+        error::UNEXPECTED_TOKEN,
+        ast::kind::STRING,
+        base,
+        st.next,
+        rest,
+    );
     let Parsed::On(state) = value else {
         return value;
     };
     let loc = st.loc;
     let start = loc.start;
-    table::put_node(rest, state, st.next, 15, 0, start, base, parent);
+    table::put_node(
+        rest,
+        state,
+        st.next,
+        ast::kind::ANNOTATION,
+        0,
+        start,
+        base,
+        parent,
+    );
     if steps::is_separator(state.kind) {
         return Parsed::On(steps::advance(class, trie, text, state));
     }
@@ -57,7 +94,7 @@ fn parse_annotation_list(
     let mut state = st;
     loop {
         let found = steps::skip(class, trie, text, state, false);
-        if found.kind == 41 {
+        if found.kind == token::kind::RIGHT_PAREN {
             return steps::take(class, trie, text, found);
         }
         let read = parse_annotation(class, trie, text, found, base, parent, rest);
@@ -81,7 +118,7 @@ pub fn parse_annotations(
     requires { ⌜ Lent (now class) (now trie) (now text) ⌝ }
     ensures { λ r. ⌜ Quiet (annotationsIn (now (text .entry)) base parent) st r (now (rest .entry)) (now (rest .exit)) ⌝ }
 {
-    if st.kind == 40 {
+    if st.kind == token::kind::LEFT_PAREN {
         return parse_some_annotations(class, trie, text, st, base, parent, rest);
     }
     Parsed::On(st)
@@ -108,6 +145,15 @@ fn parse_some_annotations(
     };
     let last = st.last;
     let start = last.start;
-    table::put_node(rest, state, st.next, 14, 0, start, base, parent);
+    table::put_node(
+        rest,
+        state,
+        st.next,
+        ast::kind::ANNOTATIONS,
+        0,
+        start,
+        base,
+        parent,
+    );
     Parsed::On(state)
 }

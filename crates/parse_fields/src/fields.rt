@@ -3,6 +3,8 @@ ghost use mathlib.Core.Path.{_≡_};
 ghost use Rattle.steps.specs.Into.{Lent, Reads, Quiet};
 ghost use Rattle.parse_fields.specs.Into.{fieldIdIn, requiredOf, skipRequired, isEarlyName, isFieldName, fieldNameIn, defaultIn, fieldHeadIn, fieldTailIn, fieldIn, fieldsIn};
 use crate::annotations;
+use ast::flag;
+use lexer::error;
 use parse_values::types;
 use parse_values::values;
 use parser::NESTING;
@@ -28,24 +30,35 @@ fn parse_field_id(
     let Parsed::On(state) = taken else {
         return taken;
     };
-    if st.kind != 32 {
+    if st.kind != token::kind::INTEGER_LITERAL {
         return Parsed::On(state);
     }
     if !id::is_id_at(text, state.last) {
-        return steps::refuse(st, 9);
+        return steps::refuse(st, error::INVALID_FIELD_ID);
     }
-    let numbered = table::put_leaf(rest, state, 17, base, parent);
-    steps::expect(class, trie, text, numbered, 43, 2)
+    let numbered = table::put_leaf(rest, state, ast::kind::FIELD_ID, base, parent);
+    steps::expect(
+        class,
+        trie,
+        text,
+        numbered,
+        token::kind::COLON,
+        error::UNEXPECTED_TOKEN,
+    )
 }
 
-// The flag of a requiredness: 1 required, 2 optional, else 0.
+// The flag of a requiredness; else 0.
 fn required_flag(kind: u32) -> u32
     ensures { λ r. ⌜ r ≡ requiredOf kind ⌝ }
 {
-    if kind == 13 {
-        return 1;
+    if kind == token::kind::REQUIRED {
+        return flag::REQUIRED;
     }
-    if kind == 14 { 2 } else { 0 }
+    if kind == token::kind::OPTIONAL {
+        flag::OPTIONAL
+    } else {
+        0
+    }
 }
 
 // Past a requiredness, if it is there.
@@ -63,35 +76,35 @@ fn skip_required(class: &[u8; 256], trie: &[u8; 512], text: &[u8], st: State) ->
 fn is_field_name(kind: u32) -> bool
     ensures { λ r. ⌜ r ≡ isFieldName kind ⌝ }
 {
-    if kind < 10 {
+    if kind < token::kind::SERVICE {
         return is_early_name(kind);
     }
-    if kind <= 14 {
+    if kind <= token::kind::OPTIONAL {
         return true;
     }
-    if kind < 16 {
+    if kind < token::kind::BOOL {
         return false;
     }
-    if kind <= 28 {
+    if kind <= token::kind::IDENTIFIER {
         return true;
     }
-    kind == 50
+    kind == token::kind::ONEWAY
 }
 
 // Of the first kinds: namespace, include, enum, struct.
 fn is_early_name(kind: u32) -> bool
     ensures { λ r. ⌜ r ≡ isEarlyName kind ⌝ }
 {
-    if kind == 1 {
+    if kind == token::kind::NAMESPACE {
         return true;
     }
-    if kind == 3 {
+    if kind == token::kind::INCLUDE {
         return true;
     }
-    if kind == 6 {
+    if kind == token::kind::ENUM {
         return true;
     }
-    kind == 7
+    kind == token::kind::STRUCT
 }
 
 fn parse_field_name(
@@ -107,10 +120,10 @@ fn parse_field_name(
     ensures { λ r. ⌜ Quiet (fieldNameIn (now (text .entry)) base parent) st r (now (rest .entry)) (now (rest .exit)) ⌝ }
 {
     if !is_field_name(st.kind) {
-        return steps::refuse(st, 8);
+        return steps::refuse(st, error::INVALID_FIELD_NAME);
     }
     let state = steps::advance(class, trie, text, st);
-    Parsed::On(table::put_leaf(rest, state, 16, base, parent))
+    Parsed::On(table::put_leaf(rest, state, ast::kind::NAME, base, parent))
 }
 
 // The default value, if there is one.
@@ -126,7 +139,7 @@ fn parse_default(
     requires { ⌜ Lent (now class) (now trie) (now text) ⌝ }
     ensures { λ r. ⌜ Quiet (defaultIn (now (text .entry)) base parent) st r (now (rest .entry)) (now (rest .exit)) ⌝ }
 {
-    if st.kind != 45 {
+    if st.kind != token::kind::EQUALS {
         return Parsed::On(st);
     }
     let state = steps::advance(class, trie, text, st);
@@ -174,7 +187,7 @@ fn parse_field_tail(
     annotations::parse_annotations(class, trie, text, state, base, parent, rest)
 }
 
-// parse_field; `flag` is 16 for a thrown field.
+// parse_field; `flag` is THROWN for a thrown field, else 0.
 fn parse_field(
     class: &[u8; 256],
     trie: &[u8; 512],
@@ -204,7 +217,16 @@ fn parse_field(
     };
     let start = steps::start_of(st);
     let flags = table::sum(required_flag(numbered.kind), flag);
-    table::put_node(rest, state, st.next, 12, flags, start, base, parent);
+    table::put_node(
+        rest,
+        state,
+        st.next,
+        ast::kind::FIELD,
+        flags,
+        start,
+        base,
+        parent,
+    );
     Parsed::On(state)
 }
 
@@ -225,7 +247,7 @@ pub fn parse_fields(
     requires { ⌜ Lent (now class) (now trie) (now text) ⌝ }
     ensures { λ r. ⌜ Reads (fieldsIn (now (text .entry)) opener closer flag base parent) st r (now (rest .entry)) (now (rest .exit)) (now (comments .entry)) (now (comments .exit)) ⌝ }
 {
-    let opened = steps::expect(class, trie, text, st, opener, 2);
+    let opened = steps::expect(class, trie, text, st, opener, error::UNEXPECTED_TOKEN);
     let Parsed::On(inside) = opened else {
         return opened;
     };

@@ -45,5 +45,16 @@ pub fn parse_name(
     requires { ⌜ Lent (now class) (now trie) (now text) ⌝ }
     ensures { λ r. ⌜ Quiet (nameIn (now (text .entry)) number base parent) st r (now (rest .entry)) (now (rest .exit)) ⌝ }
 {
-    parse_leaf(class, trie, text, st, 28, number, 16, base, parent, rest)
+    parse_leaf(
+        class,
+        trie,
+        text,
+        st,
+        token::kind::IDENTIFIER,
+        number,
+        ast::kind::NAME,
+        base,
+        parent,
+        rest,
+    )
 }

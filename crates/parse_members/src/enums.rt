@@ -2,6 +2,7 @@
 ghost use mathlib.Core.Path.{_≡_};
 ghost use Rattle.steps.specs.Into.{Lent, Reads, Quiet};
 ghost use Rattle.parse_members.specs.Into.{initializerIn, memberIn, enumMembersIn};
+use lexer::error;
 use parse_fields::annotations;
 use steps::state::Parsed;
 use steps::state::State;
@@ -20,7 +21,7 @@ fn parse_initializer(
     requires { ⌜ Lent (now class) (now trie) (now text) ⌝ }
     ensures { λ r. ⌜ Quiet (initializerIn (now (text .entry)) base parent) st r (now (rest .entry)) (now (rest .exit)) ⌝ }
 {
-    if st.kind == 45 {
+    if st.kind == token::kind::EQUALS {
         return parse_number(class, trie, text, st, base, parent, rest);
     }
     Parsed::On(st)
@@ -40,10 +41,32 @@ fn parse_number(
     ensures { λ r. ⌜ Quiet (initializerIn (now (text .entry)) base parent) st r (now (rest .entry)) (now (rest .exit)) ⌝ }
 {
     let state = steps::advance(class, trie, text, st);
-    if state.kind == 31 {
-        return parse_fields::parse_leaf(class, trie, text, state, 31, 6, 27, base, parent, rest);
+    if state.kind == token::kind::HEX_LITERAL {
+        return parse_fields::parse_leaf(
+            class,
+            trie,
+            text,
+            state,
+            token::kind::HEX_LITERAL,
+            error::INVALID_VALUE_DECLARATION,
+            ast::kind::HEX,
+            base,
+            parent,
+            rest,
+        );
     }
-    parse_fields::parse_leaf(class, trie, text, state, 32, 6, 24, base, parent, rest)
+    parse_fields::parse_leaf(
+        class,
+        trie,
+        text,
+        state,
+        token::kind::INTEGER_LITERAL,
+        error::INVALID_VALUE_DECLARATION,
+        ast::kind::INTEGER,
+        base,
+        parent,
+        rest,
+    )
 }
 
 // parse_enum_member
@@ -61,7 +84,16 @@ fn parse_enum_member(
     ensures { λ r. ⌜ Reads (memberIn (now (text .entry)) base parent) st r (now (rest .entry)) (now (rest .exit)) (now (comments .entry)) (now (comments .exit)) ⌝ }
 {
     let first = steps::own(table::open(st), st.next, comments);
-    let name = parse_fields::parse_name(class, trie, text, first, 19, base, st.next, rest);
+    let name = parse_fields::parse_name(
+        class,
+        trie,
+        text,
+        first,
+        error::INVALID_ENUM_MEMBER_NAME,
+        base,
+        st.next,
+        rest,
+    );
     let Parsed::On(named) = name else {
         return name;
     };
@@ -75,7 +107,16 @@ fn parse_enum_member(
     };
     let own = named.last;
     let start = own.start;
-    table::put_node(rest, state, st.next, 13, 0, start, base, parent);
+    table::put_node(
+        rest,
+        state,
+        st.next,
+        ast::kind::ENUM_MEMBER,
+        0,
+        start,
+        base,
+        parent,
+    );
     Parsed::On(state)
 }
 
@@ -93,7 +134,14 @@ pub fn parse_enum_members(
     requires { ⌜ Lent (now class) (now trie) (now text) ⌝ }
     ensures { λ r. ⌜ Reads (enumMembersIn (now (text .entry)) base parent) st r (now (rest .entry)) (now (rest .exit)) (now (comments .entry)) (now (comments .exit)) ⌝ }
 {
-    let opened = steps::expect(class, trie, text, st, 34, 2);
+    let opened = steps::expect(
+        class,
+        trie,
+        text,
+        st,
+        token::kind::LEFT_BRACE,
+        error::UNEXPECTED_TOKEN,
+    );
     let Parsed::On(inside) = opened else {
         return opened;
     };
@@ -101,7 +149,7 @@ pub fn parse_enum_members(
     loop {
         let over = steps::skip(class, trie, text, state, true);
         let found = steps::skip_comments(class, trie, text, over, false, comments);
-        if found.kind == 35 {
+        if found.kind == token::kind::RIGHT_BRACE {
             return steps::take(class, trie, text, found);
         }
         let read = parse_enum_member(class, trie, text, found, base, parent, rest, comments);

@@ -2,6 +2,8 @@
 ghost use mathlib.Core.Path.{_≡_};
 ghost use Rattle.steps.specs.Into.{Lent, Reads, Quiet};
 ghost use Rattle.parse_members.specs.Into.{throwsIn, returnTypeIn, flagIf, skipOneway, functionHeadIn, functionTailIn, functionIn, functionsIn};
+use ast::flag;
+use lexer::error;
 use parse_fields::annotations;
 use parse_fields::fields;
 use parse_values::types;
@@ -24,7 +26,7 @@ fn parse_throws(
     requires { ⌜ Lent (now class) (now trie) (now text) ⌝ }
     ensures { λ r. ⌜ Reads (throwsIn (now (text .entry)) base parent) st r (now (rest .entry)) (now (rest .exit)) (now (comments .entry)) (now (comments .exit)) ⌝ }
 {
-    if st.kind != 12 {
+    if st.kind != token::kind::THROWS {
         return Parsed::On(st);
     }
     let state = steps::advance(class, trie, text, st);
@@ -33,9 +35,9 @@ fn parse_throws(
         trie,
         text,
         state,
-        40,
-        41,
-        16,
+        token::kind::LEFT_PAREN,
+        token::kind::RIGHT_PAREN,
+        flag::THROWN,
         base,
         parent,
         rest,
@@ -56,11 +58,11 @@ fn parse_return_type(
     requires { ⌜ Lent (now class) (now trie) (now text) ⌝ }
     ensures { λ r. ⌜ Quiet (returnTypeIn (now (text .entry)) base parent) st r (now (rest .entry)) (now (rest .exit)) ⌝ }
 {
-    if st.kind != 15 {
+    if st.kind != token::kind::VOID {
         return types::parse_type(class, trie, text, st, NESTING, base, parent, rest);
     }
     let state = steps::advance(class, trie, text, st);
-    Parsed::On(table::put_leaf(rest, state, 18, base, parent))
+    Parsed::On(table::put_leaf(rest, state, ast::kind::KEYWORD_TYPE, base, parent))
 }
 
 // The flag of a kind, if the token ahead is of it.
@@ -75,7 +77,7 @@ fn skip_oneway(class: &[u8; 256], trie: &[u8; 512], text: &[u8], st: State) -> S
     requires { ⌜ Lent (now class) (now trie) (now text) ⌝ }
     ensures { λ r. ⌜ r ≡ skipOneway (now (text .entry)) st ⌝ }
 {
-    if st.kind != 50 {
+    if st.kind != token::kind::ONEWAY {
         return st;
     }
     steps::advance(class, trie, text, st)
@@ -99,7 +101,16 @@ fn parse_function_head(
     let Parsed::On(typed) = read else {
         return read;
     };
-    parse_fields::parse_name(class, trie, text, typed, 2, base, parent, rest)
+    parse_fields::parse_name(
+        class,
+        trie,
+        text,
+        typed,
+        error::UNEXPECTED_TOKEN,
+        base,
+        parent,
+        rest,
+    )
 }
 
 // What stands behind the parameters: thrown fields; separators and comments; annotations.
@@ -148,8 +159,8 @@ fn parse_function(
         trie,
         text,
         named,
-        40,
-        41,
+        token::kind::LEFT_PAREN,
+        token::kind::RIGHT_PAREN,
         0,
         base,
         st.next,
@@ -163,10 +174,22 @@ fn parse_function(
     let Parsed::On(state) = tail else {
         return tail;
     };
-    let flags = table::sum(flag_if(st.kind, 50, 4), flag_if(behind.kind, 12, 8));
+    let flags = table::sum(
+        flag_if(st.kind, token::kind::ONEWAY, flag::ONEWAY),
+        flag_if(behind.kind, token::kind::THROWS, flag::THROWS),
+    );
     let name = named.last;
     let start = name.start;
-    table::put_node(rest, state, st.next, 11, flags, start, base, parent);
+    table::put_node(
+        rest,
+        state,
+        st.next,
+        ast::kind::FUNCTION,
+        flags,
+        start,
+        base,
+        parent,
+    );
     Parsed::On(state)
 }
 
@@ -184,7 +207,14 @@ pub fn parse_functions(
     requires { ⌜ Lent (now class) (now trie) (now text) ⌝ }
     ensures { λ r. ⌜ Reads (functionsIn (now (text .entry)) base parent) st r (now (rest .entry)) (now (rest .exit)) (now (comments .entry)) (now (comments .exit)) ⌝ }
 {
-    let opened = steps::expect(class, trie, text, st, 34, 2);
+    let opened = steps::expect(
+        class,
+        trie,
+        text,
+        st,
+        token::kind::LEFT_BRACE,
+        error::UNEXPECTED_TOKEN,
+    );
     let Parsed::On(inside) = opened else {
         return opened;
     };
@@ -192,7 +222,7 @@ pub fn parse_functions(
     loop {
         let over = steps::skip(class, trie, text, state, true);
         let found = steps::skip_comments(class, trie, text, over, false, comments);
-        if found.kind == 35 {
+        if found.kind == token::kind::RIGHT_BRACE {
             return steps::take(class, trie, text, found);
         }
         let read = parse_function(class, trie, text, found, base, parent, rest, comments);

@@ -2,34 +2,43 @@
 ghost use mathlib.Core.Path.{_≡_};
 ghost use Rattle.steps.specs.Into.{Lent, Quiet};
 ghost use Rattle.parse_values.specs.Into.{leafType, containerType, containedIn, complexIn, typeIn};
+use lexer::error;
 use steps::state::Parsed;
 use steps::state::State;
 use steps::table;
 
-// The record of a type that is one token: 18 for a keyword, 19 for a name, else 0.
+// The record of a type that is one token, a keyword or a name; else 0.
 fn leaf_type(kind: u32) -> u32
     ensures { λ r. ⌜ r ≡ leafType kind ⌝ }
 {
-    if kind < 16 {
+    if kind < token::kind::BOOL {
         return 0;
     }
-    if kind <= 24 {
-        return 18;
+    if kind <= token::kind::BINARY {
+        return ast::kind::KEYWORD_TYPE;
     }
-    if kind == 28 { 19 } else { 0 }
+    if kind == token::kind::IDENTIFIER {
+        ast::kind::NAMED_TYPE
+    } else {
+        0
+    }
 }
 
-// The record of a container: 20 list, 21 set, 22 map, else 0.
+// The record of a container; else 0.
 fn container_type(kind: u32) -> u32
     ensures { λ r. ⌜ r ≡ containerType kind ⌝ }
 {
-    if kind == 25 {
-        return 22;
+    if kind == token::kind::MAP {
+        return ast::kind::MAP;
     }
-    if kind == 26 {
-        return 20;
+    if kind == token::kind::LIST {
+        return ast::kind::LIST;
     }
-    if kind == 27 { 21 } else { 0 }
+    if kind == token::kind::SET {
+        ast::kind::SET
+    } else {
+        0
+    }
 }
 
 // parse_field_type with `depth` containers left: the next one inside is 23 at its keyword.
@@ -56,10 +65,10 @@ pub fn parse_type(
     }
     let container = container_type(st.kind);
     if container == 0 {
-        return steps::refuse(st, 4);
+        return steps::refuse(st, error::UNSUPPORTED_TYPE);
     }
     if depth == 0 {
-        return steps::refuse(st, 23);
+        return steps::refuse(st, error::TOO_DEEP);
     }
     parse_complex_type(
         class,
@@ -89,7 +98,14 @@ fn parse_complex_type(
     requires { ⌜ Lent (now class) (now trie) (now text) ⌝ }
     ensures { λ r. ⌜ Quiet (complexIn (now (text .entry)) kind (λ q. typeIn (now (text .entry)) depth base q) base parent) st r (now (rest .entry)) (now (rest .exit)) ⌝ }
 {
-    let opened = steps::expect(class, trie, text, table::open(st), 38, 2);
+    let opened = steps::expect(
+        class,
+        trie,
+        text,
+        table::open(st),
+        token::kind::LEFT_ANGLE,
+        error::UNEXPECTED_TOKEN,
+    );
     let Parsed::On(inner) = opened else {
         return opened;
     };
@@ -97,7 +113,14 @@ fn parse_complex_type(
     let Parsed::On(behind) = read else {
         return read;
     };
-    let closed = steps::expect(class, trie, text, behind, 39, 2);
+    let closed = steps::expect(
+        class,
+        trie,
+        text,
+        behind,
+        token::kind::RIGHT_ANGLE,
+        error::UNEXPECTED_TOKEN,
+    );
     let Parsed::On(state) = closed else {
         return closed;
     };
@@ -123,13 +146,20 @@ fn parse_contained(
     ensures { λ r. ⌜ Quiet (containedIn (now (text .entry)) kind (typeIn (now (text .entry)) depth base parent)) st r (now (rest .entry)) (now (rest .exit)) ⌝ }
 {
     let first = parse_type(class, trie, text, st, depth, base, parent, rest);
-    if kind != 22 {
+    if kind != ast::kind::MAP {
         return first;
     }
     let Parsed::On(key) = first else {
         return first;
     };
-    let comma = steps::expect(class, trie, text, key, 44, 2);
+    let comma = steps::expect(
+        class,
+        trie,
+        text,
+        key,
+        token::kind::COMMA,
+        error::UNEXPECTED_TOKEN,
+    );
     let Parsed::On(value) = comma else {
         return comma;
     };

@@ -2,40 +2,45 @@
 ghost use mathlib.Core.Path.{_≡_};
 ghost use Rattle.steps.specs.Into.{Lent, Quiet};
 ghost use Rattle.parse_values.specs.Into.{leafValue, elementsIn, listIn, propertyIn, propertiesIn, mapIn, isOpener, valueIn};
+use lexer::error;
 use steps::state::Parsed;
 use steps::state::State;
 use steps::table;
 
-// The record of a value that is one token: 23 string, 24 integer, 25 double, 26 boolean, 27 hex, 28 name; else 0.
+// The record of a value that is one token; else 0.
 fn leaf_value(kind: u32) -> u32
     ensures { λ r. ⌜ r ≡ leafValue kind ⌝ }
 {
-    if kind == 28 {
-        return 28;
+    if kind == token::kind::IDENTIFIER {
+        return ast::kind::NAME_VALUE;
     }
-    if kind == 29 {
-        return 23;
+    if kind == token::kind::STRING_LITERAL {
+        return ast::kind::STRING;
     }
-    if kind == 30 {
-        return 25;
+    if kind == token::kind::DOUBLE_LITERAL {
+        return ast::kind::DOUBLE;
     }
-    if kind == 31 {
-        return 27;
+    if kind == token::kind::HEX_LITERAL {
+        return ast::kind::HEX;
     }
-    if kind == 32 {
-        return 24;
+    if kind == token::kind::INTEGER_LITERAL {
+        return ast::kind::INTEGER;
     }
-    if kind == 33 { 26 } else { 0 }
+    if kind == token::kind::BOOLEAN_LITERAL {
+        ast::kind::BOOLEAN
+    } else {
+        0
+    }
 }
 
 // A bracket or brace that opens a value.
 fn is_opener(kind: u32) -> bool
     ensures { λ r. ⌜ r ≡ isOpener kind ⌝ }
 {
-    if kind == 34 {
+    if kind == token::kind::LEFT_BRACE {
         return true;
     }
-    kind == 36
+    kind == token::kind::LEFT_BRACKET
 }
 
 // parse_field_value with `depth` containers left: the next one inside is 23 at its bracket.
@@ -61,12 +66,12 @@ pub fn parse_value(
         return Parsed::On(table::put_leaf(rest, state, leaf, base, parent));
     }
     if !is_opener(st.kind) {
-        return steps::refuse(st, 6);
+        return steps::refuse(st, error::INVALID_VALUE_DECLARATION);
     }
     if depth == 0 {
-        return steps::refuse(st, 23);
+        return steps::refuse(st, error::TOO_DEEP);
     }
-    if st.kind == 36 {
+    if st.kind == token::kind::LEFT_BRACKET {
         return parse_list_value(class, trie, text, state, depth - 1, base, parent, rest);
     }
     parse_map_value(class, trie, text, state, depth - 1, base, parent, rest)
@@ -93,7 +98,16 @@ fn parse_list_value(
     };
     let last = st.last;
     let start = last.start;
-    table::put_node(rest, state, st.next, 29, 0, start, base, parent);
+    table::put_node(
+        rest,
+        state,
+        st.next,
+        ast::kind::LIST_VALUE,
+        0,
+        start,
+        base,
+        parent,
+    );
     Parsed::On(state)
 }
 
@@ -115,7 +129,7 @@ fn parse_elements(
     loop {
         let over = steps::skip(class, trie, text, state, true);
         let found = steps::skip(class, trie, text, over, false);
-        if found.kind == 37 {
+        if found.kind == token::kind::RIGHT_BRACKET {
             return steps::take(class, trie, text, found);
         }
         let read = parse_value(class, trie, text, found, depth, base, parent, rest);
@@ -147,7 +161,16 @@ fn parse_map_value(
     };
     let last = st.last;
     let start = last.start;
-    table::put_node(rest, state, st.next, 30, 0, start, base, parent);
+    table::put_node(
+        rest,
+        state,
+        st.next,
+        ast::kind::MAP_VALUE,
+        0,
+        start,
+        base,
+        parent,
+    );
     Parsed::On(state)
 }
 
@@ -169,7 +192,7 @@ fn parse_properties(
     loop {
         let over = steps::skip(class, trie, text, state, true);
         let found = steps::skip(class, trie, text, over, false);
-        if found.kind == 35 {
+        if found.kind == token::kind::RIGHT_BRACE {
             return steps::take(class, trie, text, found);
         }
         let read = parse_property(class, trie, text, found, depth, base, parent, rest);
@@ -199,7 +222,14 @@ fn parse_property(
     let Parsed::On(key) = first else {
         return first;
     };
-    let colon = steps::expect(class, trie, text, key, 43, 2);
+    let colon = steps::expect(
+        class,
+        trie,
+        text,
+        key,
+        token::kind::COLON,
+        error::UNEXPECTED_TOKEN,
+    );
     let Parsed::On(behind) = colon else {
         return colon;
     };
@@ -208,6 +238,15 @@ fn parse_property(
         return second;
     };
     let start = steps::start_of(st);
-    table::put_node(rest, state, st.next, 31, 0, start, base, parent);
+    table::put_node(
+        rest,
+        state,
+        st.next,
+        ast::kind::PROPERTY,
+        0,
+        start,
+        base,
+        parent,
+    );
     Parsed::On(state)
 }

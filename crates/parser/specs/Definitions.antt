@@ -7,6 +7,7 @@ use lib.Dec.{eqb, ltb}
 use Rattle.token.specs.declared.Token.{Token}
 use Rattle.token.specs.declared.Token.the-variants as T
 use Rattle.lexer.specs.declared.location.LOC.{LOC}
+use Rattle.lexer.specs.Error.{UnexpectedToken, UnexpectedEOF, InvalidValueDeclaration, InvalidFieldName, InvalidFieldId, MissingNamespaceIdentifier, MissingNamespaceScope, MissingIncludeIdentifier, MissingConstIdentifier, MissingTypedefIdentifier, MissingEnumIdentifier, MissingStructIdentifier, MissingServiceIdentifier, MissingServiceExtends, InvalidEnumMemberName}
 use Rattle.lexer.specs.Tokens.{Lexeme}
 use Rattle.ast.specs.Ast.{
   FieldType,
@@ -63,9 +64,9 @@ oneSeparator = when separators (do next; pure tt) (pure tt)
 
 unfoldable pub parseAnnotation : P Annotation
 parseAnnotation = do
-  t ← want (T.Identifier ∷ []) 2
-  want (T.Equals ∷ []) 2
-  v ← want (T.StringLiteral ∷ []) 2
+  t ← want (T.Identifier ∷ []) UnexpectedToken
+  want (T.Equals ∷ []) UnexpectedToken
+  v ← want (T.StringLiteral ∷ []) UnexpectedToken
   oneSeparator
   pure (annotation (span (place t) (place v)) t v)
 
@@ -104,7 +105,7 @@ parseFieldId =
     when (T.IntegerLiteral ∷ [])
     (do
       t ← next
-      test (isId (bytes t)) (do want (T.Colon ∷ []) 2; pure (some t)) (refuse 9 t))
+      test (isId (bytes t)) (do want (T.Colon ∷ []) UnexpectedToken; pure (some t)) (refuse InvalidFieldId t))
     (do next; pure none)
 
 unfoldable pub parseRequired : P Required
@@ -128,7 +129,7 @@ parseField = do
   i ← parseFieldId
   r ← parseRequired
   t ← parseType
-  m ← want fieldNames 8
+  m ← want fieldNames InvalidFieldName
   v ← parseDefault
   a ← parseAnnotations
   e ← here
@@ -144,7 +145,7 @@ membersEnd k = do
 
 unfoldable pub parseMembers : {A : Type 0} → Token → Token → P A → P (List A)
 parseMembers l r p = do
-  want (l ∷ []) 2
+  want (l ∷ []) UnexpectedToken
   many [] _∷_ (membersEnd r) p
 
 unfoldable pub parseParameters : P (List Field)
@@ -166,7 +167,7 @@ parseFunction = do
   c ← taken
   o ← parseOneway
   t ← parseReturnType
-  m ← want (T.Identifier ∷ []) 2
+  m ← want (T.Identifier ∷ []) UnexpectedToken
   ps ← parseParameters
   th ← parseThrows
   skip-trivia
@@ -181,14 +182,14 @@ parseInitializer =
     when (T.Equals ∷ [])
     (do
       next
-      t ← want (T.IntegerLiteral ∷ T.HexLiteral ∷ []) 6
+      t ← want (T.IntegerLiteral ∷ T.HexLiteral ∷ []) InvalidValueDeclaration
       pure (some t))
     (pure none)
 
 unfoldable pub parseEnumMember : P EnumMember
 parseEnumMember = do
   c ← taken
-  m ← want (T.Identifier ∷ []) 19
+  m ← want (T.Identifier ∷ []) InvalidEnumMemberName
   v ← parseInitializer
   a ← parseAnnotations
   e ← here
@@ -200,15 +201,15 @@ unfoldable pub parseInclude : (LOC → List Lexeme → Lexeme → Definition) �
 parseInclude create = do
   c ← taken
   k ← next
-  m ← want (T.StringLiteral ∷ []) 12
+  m ← want (T.StringLiteral ∷ []) MissingIncludeIdentifier
   pure (create (span (place k) (place m)) c m)
 
 unfoldable pub parseNamespace : P Definition
 parseNamespace = do
   c ← taken
   k ← next
-  s ← want (T.Identifier ∷ T.Star ∷ []) 11
-  m ← want (T.Identifier ∷ []) 10
+  s ← want (T.Identifier ∷ T.Star ∷ []) MissingNamespaceScope
+  m ← want (T.Identifier ∷ []) MissingNamespaceIdentifier
   pure (Namespace (span (place k) (place m)) c s m)
 
 unfoldable pub parseConst : P Definition
@@ -216,8 +217,8 @@ parseConst = do
   c ← taken
   k ← next
   t ← parseType
-  m ← want (T.Identifier ∷ []) 13
-  want (T.Equals ∷ []) 2
+  m ← want (T.Identifier ∷ []) MissingConstIdentifier
+  want (T.Equals ∷ []) UnexpectedToken
   v ← parseValue
   e ← here
   skip-trivia
@@ -228,14 +229,14 @@ parseTypedef = do
   c ← taken
   k ← next
   t ← parseType
-  m ← want (T.Identifier ∷ []) 14
+  m ← want (T.Identifier ∷ []) MissingTypedefIdentifier
   pure (Typedef (span (place k) (place m)) c t m)
 
 unfoldable pub parseEnum : P Definition
 parseEnum = do
   c ← taken
   k ← next
-  m ← want (T.Identifier ∷ []) 15
+  m ← want (T.Identifier ∷ []) MissingEnumIdentifier
   xs ← parseMembers T.LeftBrace T.RightBrace parseEnumMember
   a ← parseAnnotations
   e ← here
@@ -246,20 +247,20 @@ unfoldable pub parseStructure : Structure → P Definition
 parseStructure s = do
   c ← taken
   k ← next
-  m ← want (T.Identifier ∷ []) 16
+  m ← want (T.Identifier ∷ []) MissingStructIdentifier
   xs ← parseMembers T.LeftBrace T.RightBrace parseField
   a ← parseAnnotations
   e ← here
   pure (structure s (span (place k) e) c m xs a)
 
 unfoldable pub parseExtends : P (Option Lexeme)
-parseExtends = when (T.Extends ∷ []) (do next; t ← want (T.Identifier ∷ []) 18; pure (some t)) (pure none)
+parseExtends = when (T.Extends ∷ []) (do next; t ← want (T.Identifier ∷ []) MissingServiceExtends; pure (some t)) (pure none)
 
 unfoldable pub parseService : P Definition
 parseService = do
   c ← taken
   k ← next
-  m ← want (T.Identifier ∷ []) 17
+  m ← want (T.Identifier ∷ []) MissingServiceIdentifier
   x ← parseExtends
   xs ← parseMembers T.LeftBrace T.RightBrace parseFunction
   a ← parseAnnotations
@@ -280,11 +281,11 @@ parseDefinition =
     (when (T.Union ∷ []) (parseStructure Union)
     (when (T.Exception ∷ []) (parseStructure Exception)
     (when (T.Service ∷ []) parseService
-    (fail 2))))))))))
+    (fail UnexpectedToken))))))))))
 
 -- with no token left: the end, unless the last token ends at offset 1
 unfoldable pub over : P Bool
-over (pos l c []) = test (eqb (l .end .index) 1) (fail 3) (pure true) (pos l c [])
+over (pos l c []) = test (eqb (l .end .index) 1) (fail UnexpectedEOF) (pure true) (pos l c [])
 over (pos l c (t ∷ ts)) = ok false (pos l c (t ∷ ts))
 
 unfoldable pub documentEnd : P Bool

@@ -5,6 +5,7 @@ use Prim.Native.Nat.{ℕ, _-_}
 use lib.Dec.{eqb, ltb}
 use lib.ListN.{length}
 use Rattle.lexer.specs.declared.location.LOC.{LOC}
+use Rattle.lexer.specs.Error.{UnrecognizedToken, UnexpectedEOF, NodesFull, CommentsFull}
 use Rattle.lexer.specs.Outcome.{Outcome, accepted, refused}
 use Rattle.lexer.specs.Location.{between, opening}
 use Rattle.lexer.specs.Tokens.{tokens}
@@ -22,7 +23,7 @@ parsed t = parseDocument (pos (between opening opening) [] (tokens t opening))
 
 -- the end rule: with no token left, 3 if the last token ends at the text's length, else 1
 unfoldable pub endRule : ℕ → LOC → List ℕ → ℕ
-endRule e l t = cond (eqb e 3) (cond (eqb (l .end .index) (length t)) 3 1) e
+endRule e l t = cond (eqb e UnexpectedEOF) (cond (eqb (l .end .index) (length t)) UnexpectedEOF UnrecognizedToken) e
 
 unfoldable pub answered : Res (List Definition) → List ℕ → Outcome (List Definition)
 answered (ok ds s) t = accepted ds
@@ -40,8 +41,8 @@ outcome t = outcomeBy (checked t) t
 -- then 24 and 25; the counts of nodes and of comments
 unfoldable pub fitted : List Definition → List ℕ → List ℕ → Outcome (List ℕ)
 fitted ds nodes comments =
-    cond (ltb (room nodes) (length (nodeRows ds))) (refused 24 0 0)
-    (cond (ltb (room comments) (length (notes ds))) (refused 25 0 0) (accepted (length (nodeRows ds) ∷ length (notes ds) ∷ [])))
+    cond (ltb (room nodes) (length (nodeRows ds))) (refused NodesFull 0 0)
+    (cond (ltb (room comments) (length (notes ds))) (refused CommentsFull 0 0) (accepted (length (nodeRows ds) ∷ length (notes ds) ∷ [])))
 
 unfoldable pub answer : Outcome (List Definition) → List ℕ → List ℕ → Outcome (List ℕ)
 answer (accepted ds) nodes comments = fitted ds nodes comments

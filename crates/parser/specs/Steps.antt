@@ -7,6 +7,7 @@ use Rattle.token.specs.Code.{among}
 use Rattle.token.specs.declared.Token.{Token}
 use Rattle.token.specs.declared.Token.the-variants as T
 use Rattle.lexer.specs.declared.location.LOC.{LOC}
+use Rattle.lexer.specs.Error.{UnexpectedEOF}
 use Rattle.lexer.specs.Tokens.{Lexeme, lexeme}
 
 unfoldable pub kind : Lexeme → Token
@@ -62,7 +63,7 @@ when ks p q s = test (peek ks s) p q s
 
 -- refuse at the next token. With no token left: 3 at the last one, which the end rule makes 3 or 1
 unfoldable pub fail : {A : Type 0} → ℕ → P A
-fail e (pos l c []) = no 3 l
+fail e (pos l c []) = no UnexpectedEOF l
 fail e (pos l c (t ∷ ts)) = no e (place t)
 
 -- refuse at a token that was taken
@@ -71,7 +72,7 @@ refuse e t s = no e (place t)
 
 -- advance
 unfoldable pub next : P Lexeme
-next (pos l c []) = no 3 l
+next (pos l c []) = no UnexpectedEOF l
 next (pos l c (t ∷ ts)) = ok t (pos (place t) c ts)
 
 -- expect_token, consume, and both with an error kind: a token of one of these kinds, or refuse with e
@@ -138,7 +139,7 @@ closed k = when (k ∷ []) (do next; pure true) (pure false)
 -- the loops of parse_members, parse_parameters, parse_delimited_values, parse_annotations and parse: members until `end` says so.
 -- A list that is read is shorter than the text, so the count never runs out
 unfoldable pub loop : {A B : Type 0} → B → (A → B → B) → P Bool → P A → ℕ → P B
-loop e c end p zero = fail 3
+loop e c end p zero = fail UnexpectedEOF
 loop e c end p (suc n) = do
   b ← end
   test b (pure e) (do a ← p; x ← loop e c end p n; pure (c a x))

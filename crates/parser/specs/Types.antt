@@ -6,6 +6,7 @@ use Rattle.token.specs.Code.{is, among}
 use Rattle.token.specs.declared.Token.{Token}
 use Rattle.token.specs.declared.Token.the-variants as T
 use Rattle.lexer.specs.declared.location.LOC.{LOC}
+use Rattle.lexer.specs.Error.{UnexpectedToken, UnsupportedType, TooDeep}
 use Rattle.lexer.specs.Tokens.{Lexeme}
 use Rattle.ast.specs.Ast.{FieldType, CommonType, ListType, SetType, MapType}
 use Rattle.parser.specs.Steps.{_>>=_, _>>_, P, pure, test, kind, place, span, next, want, here, refuse}
@@ -20,20 +21,20 @@ containerTypes = T.List ∷ T.Map ∷ T.Set ∷ []
 -- parse_complex_type: `<`, a type, `>`
 unfoldable pub complexType : (LOC → Lexeme → FieldType → FieldType) → P FieldType → Lexeme → P FieldType
 complexType create inner t = do
-  want (T.LeftAngle ∷ []) 2
+  want (T.LeftAngle ∷ []) UnexpectedToken
   a ← inner
-  want (T.RightAngle ∷ []) 2
+  want (T.RightAngle ∷ []) UnexpectedToken
   e ← here
   pure (create (span (place t) e) t a)
 
 -- parse_map_type
 unfoldable pub mapType : P FieldType → Lexeme → P FieldType
 mapType inner t = do
-  want (T.LeftAngle ∷ []) 2
+  want (T.LeftAngle ∷ []) UnexpectedToken
   a ← inner
-  want (T.Comma ∷ []) 2
+  want (T.Comma ∷ []) UnexpectedToken
   b ← inner
-  want (T.RightAngle ∷ []) 2
+  want (T.RightAngle ∷ []) UnexpectedToken
   e ← here
   pure (MapType (span (place t) e) t a b)
 
@@ -46,9 +47,9 @@ containerType inner t =
 unfoldable pub typeBy : (Lexeme → P FieldType) → P FieldType
 typeBy inside = do
   t ← next
-  test (among (kind t) leafTypes) (pure (CommonType t)) (test (among (kind t) containerTypes) (inside t) (refuse 4 t))
+  test (among (kind t) leafTypes) (pure (CommonType t)) (test (among (kind t) containerTypes) (inside t) (refuse UnsupportedType t))
 
 -- parse_field_type, with so many containers left: the next one inside is 23 at its keyword
 unfoldable pub fieldType : ℕ → P FieldType
-fieldType zero = typeBy (refuse 23)
+fieldType zero = typeBy (refuse TooDeep)
 fieldType (suc d) = typeBy (containerType (fieldType d))

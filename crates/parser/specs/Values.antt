@@ -6,6 +6,7 @@ use Rattle.token.specs.Code.{is, among}
 use Rattle.token.specs.declared.Token.{Token}
 use Rattle.token.specs.declared.Token.the-variants as T
 use Rattle.lexer.specs.declared.location.LOC.{LOC}
+use Rattle.lexer.specs.Error.{UnexpectedToken, InvalidValueDeclaration, TooDeep}
 use Rattle.lexer.specs.Tokens.{Lexeme}
 use Rattle.ast.specs.Ast.{FieldInitialValue, ConstValue, ConstList, ConstMap, nil, cons, Properties, pnil, pcons}
 use Rattle.parser.specs.Steps.{_>>=_, _>>_, P, pure, test, kind, place, span, next, want, start, here, refuse, skip-separator, skip-comments-discard, closed, many}
@@ -34,7 +35,7 @@ unfoldable pub mapProperty : P FieldInitialValue → P Property
 mapProperty value = do
   b ← start
   k ← value
-  want (T.Colon ∷ []) 2
+  want (T.Colon ∷ []) UnexpectedToken
   v ← value
   e ← here
   pure (property (span b e) k v)
@@ -59,9 +60,9 @@ containerValue value t = test (is (kind t) T.LeftBracket) (listValue value t) (m
 unfoldable pub valueBy : (Lexeme → P FieldInitialValue) → P FieldInitialValue
 valueBy inside = do
   t ← next
-  test (among (kind t) leafValues) (pure (ConstValue t)) (test (among (kind t) openers) (inside t) (refuse 6 t))
+  test (among (kind t) leafValues) (pure (ConstValue t)) (test (among (kind t) openers) (inside t) (refuse InvalidValueDeclaration t))
 
 -- parse_field_value, with so many containers left: the next one inside is 23 at its bracket
 unfoldable pub fieldValue : ℕ → P FieldInitialValue
-fieldValue zero = valueBy (refuse 23)
+fieldValue zero = valueBy (refuse TooDeep)
 fieldValue (suc d) = valueBy (containerValue (fieldValue d))

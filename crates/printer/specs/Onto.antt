@@ -5,6 +5,7 @@ use mathlib.Core.List.{List, [], _∷_}
 use Prim.Native.Nat.{ℕ}
 use lib.Dec.{ltb}
 use lib.ListN.{length, getD}
+use Rattle.lexer.specs.Error.{TextTooLong, IndentTooWide, OutputFull}
 use Rattle.lexer.specs.Outcome.{Outcome, accepted, refused}
 use Rattle.ast.specs.Records.{cleared}
 use Rattle.parser.specs.Read.{Reading, reading}
@@ -26,7 +27,7 @@ refusing e p n t u o = record { says = refused e p n; nodes = cleared t; comment
 -- what was printed, if the output held it
 unfoldable pub fits : ℕ → ℕ → ℕ → List ℕ → List ℕ → List ℕ → Printing
 fits n c len t u o =
-    cond (ltb (length o) len) (refusing 27 0 0 t u o) (record { says = accepted (n ∷ c ∷ len ∷ []); nodes = t; comments = u; output = wiped len o })
+    cond (ltb (length o) len) (refusing OutputFull 0 0 t u o) (record { says = accepted (n ∷ c ∷ len ∷ []); nodes = t; comments = u; output = wiped len o })
 
 unfoldable pub ended : Reached → ℕ → ℕ → List ℕ → List ℕ → Printing
 ended (reached p o) n c t u = fits n c (p .length) t u o
@@ -45,5 +46,5 @@ byReading r text indent o = byAnswer (r .says) text indent (r .nodes) (r .commen
 -- 20 and 26, then the reading, then the writing
 unfoldable pub all : List ℕ → ℕ → List ℕ → List ℕ → List ℕ → Printing
 all text indent t u o =
-    cond (ltb limit (length text)) (refusing 20 0 0 t u o)
-    (cond (ltb widest indent) (refusing 26 0 0 t u o) (byReading (reading text t u) text indent o))
+    cond (ltb limit (length text)) (refusing TextTooLong 0 0 t u o)
+    (cond (ltb widest indent) (refusing IndentTooWide 0 0 t u o) (byReading (reading text t u) text indent o))

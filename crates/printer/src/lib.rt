@@ -6,6 +6,7 @@ ghost use Rattle.steps.specs.Into.{wiped};
 ghost use Rattle.writer.specs.Write.{told, printing};
 ghost use Rattle.printer.specs.Onto.{refusing, fits, writing};
 use cursor::Cursor;
+use lexer::error;
 use parser::Answer;
 use writer::Printed;
 
@@ -53,7 +54,7 @@ fn fit(
     ensures { λ r. ⌜ told r (now (nodes .exit)) (now (comments .exit)) (now (out .exit)) ≡ fits n c bytes (now (nodes .entry)) (now (comments .entry)) (now (out .entry)) ⌝ }
 {
     if out.len() < bytes {
-        return refuse(27, 0, 0, nodes, comments, out);
+        return refuse(error::OUTPUT_FULL, 0, 0, nodes, comments, out);
     }
     clear(out, bytes);
     Printed::Accepted {
@@ -95,10 +96,10 @@ pub fn print(
     ensures { λ r. ⌜ told r (now (nodes .exit)) (now (comments .exit)) (now (out .exit)) ≡ printing (now (text .entry)) indent (now (nodes .entry)) (now (comments .entry)) (now (out .entry)) ⌝ }
 {
     if lexer::LIMIT < text.len() {
-        return refuse(20, 0, 0, nodes, comments, out);
+        return refuse(error::TEXT_TOO_LONG, 0, 0, nodes, comments, out);
     }
     if writer::WIDEST < indent {
-        return refuse(26, 0, 0, nodes, comments, out);
+        return refuse(error::INDENT_TOO_WIDE, 0, 0, nodes, comments, out);
     }
     match reader::read(text, nodes, comments) {
         Answer::Refused {

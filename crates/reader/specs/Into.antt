@@ -7,6 +7,7 @@ use Prim.Native.Nat.{ℕ, _*_, _-_}
 use lib.Dec.{eqb, ltb}
 use lib.ListN.{length, take, drop}
 use Rattle.lexer.specs.declared.location.LOC.{LOC}
+use Rattle.lexer.specs.Error.{UnrecognizedToken, UnexpectedEOF, NoToken, NodesFull, CommentsFull}
 use Rattle.lexer.specs.Outcome as O
 use Rattle.lexer.specs.Location.{between, opening}
 use Rattle.lexer.specs.Cuts.{cuts, unrecognized}
@@ -27,7 +28,7 @@ unfoldable pub restIn : List ℕ → M
 restIn text st t u = let i = restAt (length t) (st .next) in inRest i t (definitionIn text st (drop i t) u)
 
 unfoldable pub overIn : M
-overIn st t u = cond (eqb (st .last .end .index) 1) (refused 3 st) (done st t u)
+overIn st t u = cond (eqb (st .last .end .index) 1) (refused UnexpectedEOF st) (done st t u)
 
 unfoldable pub betweenIn : List ℕ → M
 betweenIn text = skipIn text true ⨟ (skipCommentsIn text false ⨟ skipIn text true)
@@ -46,7 +47,7 @@ unfoldable pub refusing : ℕ → ℕ → ℕ → List ℕ → List ℕ → Read
 refusing e p n t u = record { says = O.refused e p n; nodes = cleared t; comments = cleared u }
 
 unfoldable pub ended : ℕ → ℕ → ℕ → ℕ
-ended e i len = cond (eqb e 3) (cond (eqb i len) 3 1) e
+ended e i len = cond (eqb e UnexpectedEOF) (cond (eqb i len) UnexpectedEOF UnrecognizedToken) e
 
 unfoldable pub refusingAt : ℕ → LOC → ℕ → List ℕ → List ℕ → Reading
 refusingAt e l len t u = refusing (ended e (l .end .index) len) (l .start .index) (l .end .index - l .start .index) t u
@@ -54,8 +55,8 @@ refusingAt e l len t u = refusing (ended e (l .end .index) len) (l .start .index
 -- what was read, if the tables hold it: else 24, then 25
 unfoldable pub fits : State → List ℕ → List ℕ → Reading
 fits st t u =
-    cond (ltb (room t) (st .next)) (refusing 24 0 0 t u)
-    (cond (ltb (room u) (st .owned)) (refusing 25 0 0 t u)
+    cond (ltb (room t) (st .next)) (refusing NodesFull 0 0 t u)
+    (cond (ltb (room u) (st .owned)) (refusing CommentsFull 0 0 t u)
     (record { says = O.accepted (st .next ∷ st .owned ∷ []); nodes = wiped (st .next * width) t; comments = wiped (st .owned * width) u }))
 
 unfoldable pub judged : Out → ℕ → List ℕ → List ℕ → Reading
@@ -69,7 +70,7 @@ unscanned (stop e l) = 0
 
 -- 22 comes before what the grammar finds
 unfoldable pub settled : Option ℕ → Out → ℕ → List ℕ → List ℕ → Reading
-settled (some p) o len t u = refusing 22 p 0 t u
+settled (some p) o len t u = refusing NoToken p 0 t u
 settled none o len t u = judged o len t u
 
 unfoldable pub parsing : List ℕ → List ℕ → List ℕ → Reading

@@ -6,6 +6,7 @@ ghost use lib.ListN.{length};
 ghost use Rattle.parser.specs.Read.{reading, told};
 ghost use Rattle.steps.specs.Into.{Keeps, Lent, Reads, Still, restAt, shows, wiped};
 ghost use Rattle.reader.specs.Into.{restIn, overIn, betweenIn, documentIn, beginning, refusing, ended, refusingAt, fits, judged, unscanned, parsing};
+use lexer::error;
 use lexer::location::LOC;
 use lexer::location::Lexer;
 use lexer::location::Span;
@@ -46,7 +47,7 @@ fn over(st: State) -> Parsed
 {
     let last = st.last;
     if last.end.index == 1 {
-        return steps::refuse(st, 3);
+        return steps::refuse(st, error::UNEXPECTED_EOF);
     }
     Parsed::On(st)
 }
@@ -143,10 +144,14 @@ fn refuse(number: u32, place: u32, length: u32, nodes: &mut [u32], comments: &mu
 fn end_rule(number: u32, end: u32, len: usize) -> u32
     ensures { λ r. ⌜ r ≡ ended number end len ⌝ }
 {
-    if number != 3 {
+    if number != error::UNEXPECTED_EOF {
         return number;
     }
-    if end as usize == len { 3 } else { 1 }
+    if end as usize == len {
+        error::UNEXPECTED_EOF
+    } else {
+        error::UNRECOGNIZED_TOKEN
+    }
 }
 
 // A refusal of the grammar.
@@ -170,10 +175,10 @@ fn fit(state: State, nodes: &mut [u32], comments: &mut [u32]) -> Answer
     let next = state.next;
     let owned = state.owned;
     if nodes.len() / table::WIDTH < next as usize {
-        return refuse(24, 0, 0, nodes, comments);
+        return refuse(error::NODES_FULL, 0, 0, nodes, comments);
     }
     if comments.len() / table::WIDTH < owned as usize {
-        return refuse(25, 0, 0, nodes, comments);
+        return refuse(error::COMMENTS_FULL, 0, 0, nodes, comments);
     }
     clear(nodes, next as usize * table::WIDTH);
     clear(comments, owned as usize * table::WIDTH);
@@ -217,7 +222,7 @@ fn parse(text: &[u8], nodes: &mut [u32], comments: &mut [u32]) -> Answer
     let parsed = parse_document(&class, &trie, text, st, nodes, comments);
     let from = unscanned(parsed);
     if let Found::At(at) = lexer::unrecognized(&class, &trie, text, from) {
-        return refuse(22, at as u32, 0, nodes, comments);
+        return refuse(error::NO_TOKEN, at as u32, 0, nodes, comments);
     }
     judge(parsed, text.len(), nodes, comments)
 }
@@ -227,10 +232,10 @@ pub fn read(text: &[u8], nodes: &mut [u32], comments: &mut [u32]) -> Answer
     ensures { λ r. ⌜ told r (now (nodes .exit)) (now (comments .exit)) ≡ reading (now (text .entry)) (now (nodes .entry)) (now (comments .entry)) ⌝ }
 {
     if lexer::LIMIT < text.len() {
-        return refuse(20, 0, 0, nodes, comments);
+        return refuse(error::TEXT_TOO_LONG, 0, 0, nodes, comments);
     }
     if let Found::At(at) = utf8::ill_formed(text) {
-        return refuse(21, at as u32, 0, nodes, comments);
+        return refuse(error::NOT_UTF8, at as u32, 0, nodes, comments);
     }
     parse(text, nodes, comments)
 }

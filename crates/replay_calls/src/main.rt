@@ -16,12 +16,18 @@ const SPACE: usize = 66560;
 // How many requests are made of a text.
 const CALLS: usize = 12;
 
+// The first number of a request; any but 0 asks for a printing.
+const READING: u32 = 0;
+
+const PRINTING: u32 = 1;
+
 // More than is there.
 const ALL: u32 = 4294967295;
 
-const FIELD: u8 = 12;
+// The kinds of two records, as the list's first byte of each.
+const FIELD: u8 = ast::kind::FIELD as u8;
 
-const ID: u8 = 17;
+const ID: u8 = ast::kind::FIELD_ID as u8;
 
 // A text's number in the list, and whether its fields are numbered.
 struct Case {
@@ -36,7 +42,7 @@ struct Needs {
     bytes: u32,
 }
 
-// A call, 0 for a reading, and how much it is lent.
+// A call, READING or not, and how much it is lent.
 struct Request {
     kind: u32,
     nodes: usize,
@@ -209,51 +215,51 @@ fn requests_for(needs: Needs) -> [u32; 48] {
     let c = needs.comments;
     let b = needs.bytes;
     [
-        0,
+        READING,
         n,
         c,
         0, //
-        1,
+        PRINTING,
         less(n),
         c,
         b, //
-        1,
+        PRINTING,
         n,
         less(c),
         b, //
-        1,
+        PRINTING,
         n,
         c,
         less(b), //
-        1,
+        PRINTING,
         0,
         0,
         0, //
-        0,
+        READING,
         ALL,
         ALL,
         0, //
-        1,
+        PRINTING,
         n,
         c,
         b, //
-        0,
+        READING,
         less(n),
         c,
         b, //
-        0,
+        READING,
         n,
         c,
         ALL, //
-        1,
+        PRINTING,
         ALL,
         ALL,
         less(b), //
-        1,
+        PRINTING,
         ALL,
         ALL,
         ALL, //
-        0,
+        READING,
         0,
         0,
         0, //
@@ -361,7 +367,7 @@ fn make_call(
     out: &mut [u8],
 ) -> Steps {
     let length = least(steps.length, space.len());
-    if request.kind == 0 {
+    if request.kind == READING {
         make_reading(&space[..length], request, nodes, comments);
         return steps;
     }

@@ -2,6 +2,7 @@
 //
 // The list is that of replay_nodes, whose src/main.rt says what it holds. Tables and output are lent full of sevens; what lies past the answer must be 0 afterwards.
 // A print is printed again only if the text's fields are numbered: document 01 promises the same bytes for those.
+use lexer::error;
 use libc::STDIN_FILENO;
 use libc::STDOUT_FILENO;
 use writer::Printed;
@@ -11,9 +12,10 @@ ghost use Rattle.io.specs.Counts.{Counts};
 // Longer than each text and each print of the list.
 const SPACE: usize = 66560;
 
-const FIELD: u8 = 12;
+// The kinds of two records, as the list's first byte of each.
+const FIELD: u8 = ast::kind::FIELD as u8;
 
-const ID: u8 = 17;
+const ID: u8 = ast::kind::FIELD_ID as u8;
 
 // What was printed and compared.
 struct Tally {
@@ -192,7 +194,7 @@ fn is_short(text: &[u8], print: usize) -> bool {
     if SPACE < room {
         return false;
     }
-    is_refused(text, &mut out[..room], 27, 0, 0)
+    is_refused(text, &mut out[..room], error::OUTPUT_FULL, 0, 0)
 }
 
 fn more(n: u32) -> u32 {

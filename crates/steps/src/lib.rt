@@ -6,6 +6,7 @@ pub mod table;
 ghost use mathlib.Core.Path.{_≡_};
 ghost use Prim.Native.Nat.{_-_};
 ghost use Rattle.steps.specs.Into.{Keeps, Lent, Still, lexerAt, lookAt, aheadOf, advanced, refuseIn, startAt, takeIn, expectIn, isSeparator, isComment, passes, passed, waitIn, skipCommentsIn, ownIn};
+use lexer::error;
 use lexer::location::Lexer;
 use lexer::location::Next;
 use lexer::location::Span;
@@ -95,7 +96,7 @@ pub fn refuse(st: State, number: u32) -> Parsed
 {
     if st.kind == NONE {
         let last = st.last;
-        return Parsed::Refused(3, last);
+        return Parsed::Refused(error::UNEXPECTED_EOF, last);
     }
     let loc = st.loc;
     Parsed::Refused(number, loc)
@@ -120,7 +121,7 @@ pub fn take(class: &[u8; 256], trie: &[u8; 512], text: &[u8], st: State) -> Pars
     ensures { λ r. ⌜ Still (takeIn (now (text .entry))) st r ⌝ }
 {
     if st.kind == NONE {
-        return refuse(st, 3);
+        return refuse(st, error::UNEXPECTED_EOF);
     }
     Parsed::On(advance(class, trie, text, st))
 }
@@ -178,19 +179,19 @@ fn passes(kind: u32, separators: bool) -> bool
 pub fn is_separator(kind: u32) -> bool
     ensures { λ r. ⌜ r ≡ isSeparator kind ⌝ }
 {
-    if kind == 44 {
+    if kind == token::kind::COMMA {
         return true;
     }
-    kind == 42
+    kind == token::kind::SEMICOLON
 }
 
 pub fn is_comment(kind: u32) -> bool
     ensures { λ r. ⌜ r ≡ isComment kind ⌝ }
 {
-    if kind == 48 {
+    if kind == token::kind::LINE_COMMENT {
         return true;
     }
-    kind == 49
+    kind == token::kind::BLOCK_COMMENT
 }
 
 // skip_comments, and with `separators` skip_trivia: the comments wait. The usual case is apart from the loop here too.
@@ -245,9 +246,9 @@ fn skip_all_comments(
 fn wait(st: State, comments: &mut [u32]) -> State
     ensures { λ r. ⌜ Keeps (waitIn) st r (now (comments .entry)) (now (comments .exit)) ⌝ }
 {
-    let mut kind = 33;
-    if st.kind == 48 {
-        kind = 32;
+    let mut kind = ast::kind::BLOCK_COMMENT;
+    if st.kind == token::kind::LINE_COMMENT {
+        kind = ast::kind::LINE_COMMENT;
     }
     let loc = st.loc;
     let last = st.last;

@@ -1,5 +1,6 @@
 // Writes the tokens of the text on standard input, a line for each, or one line for the refusal of the text.
 use lexer::Checked;
+use lexer::error;
 use lexer::location::Lexer;
 use lexer::location::Next;
 use lexer::location::ParserToken;
@@ -75,11 +76,11 @@ fn write_token(token: ParserToken) {
 }
 
 // Writes a refusal: its number, its place and its length, which is 0.
-fn write_refusal(number: usize, place: usize) {
+fn write_refusal(number: u32, place: usize) {
     let mut space = [0u8; 160];
     let line: &mut [u8] = &mut space;
     let a = put_byte(line, 0, b'R');
-    let b = put_next(line, a, number);
+    let b = put_next(line, a, number as usize);
     let c = put_next(line, b, place);
     let d = put_next(line, c, 0);
     write_line(line, d);
@@ -108,9 +109,9 @@ fn write_text(text: &[u8]) {
             let trie = lexer::table::WORDS;
             write_tokens(&class, &trie, text);
         }
-        Checked::TooLong => write_refusal(20, 0),
-        Checked::IllFormed(at) => write_refusal(21, at),
-        Checked::Unrecognized(at) => write_refusal(22, at),
+        Checked::TooLong => write_refusal(error::TEXT_TOO_LONG, 0),
+        Checked::IllFormed(at) => write_refusal(error::NOT_UTF8, at),
+        Checked::Unrecognized(at) => write_refusal(error::NO_TOKEN, at),
     }
 }
 

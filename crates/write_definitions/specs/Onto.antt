@@ -2,8 +2,9 @@
 -- the printer cite it, and printer/proofs/Meant shows what it means; nothing else has to believe it.
 use mathlib.Core.Bool.{true, false, cond}
 use mathlib.Core.List.{List}
-use Prim.Native.Nat.{ℕ, zero, suc}
+use Prim.Native.Nat.{ℕ, zero, suc, _+_}
 use lib.Dec.{eqb, ltb}
+use Rattle.ast.specs.Kind as K
 use Rattle.cursor.specs.Onto.{reached, W, then, _⨟_, numberAt, kindAt, passNode, sayOut, tokenOut, spacesOut, commentsOut}
 use Rattle.write_fields.specs.Onto.{valueOut, annotationsOut, assignedOut, typedNameOut, fieldOut, paramsOut}
 
@@ -11,10 +12,10 @@ use Rattle.write_fields.specs.Onto.{valueOut, annotationsOut, assignedOut, type
 
 unfoldable pub throwsOut : List ℕ → List ℕ → ℕ → List ℕ → ℕ → ℕ → W
 throwsOut text nodes count comments total f p o =
-    cond (ltb f 8) (reached p o) ((sayOut " throws (" ⨟ (paramsOut text nodes count comments total true ⨟ sayOut ")")) p o)
+    cond (ltb f K.Throws) (reached p o) ((sayOut " throws (" ⨟ (paramsOut text nodes count comments total true ⨟ sayOut ")")) p o)
 
 unfoldable pub onewayOut : ℕ → W
-onewayOut f p o = cond (eqb f 4) (sayOut "oneway " p o) (cond (eqb f 12) (sayOut "oneway " p o) (reached p o))
+onewayOut f p o = cond (eqb f K.Oneway) (sayOut "oneway " p o) (cond (eqb f (K.Oneway + K.Throws)) (sayOut "oneway " p o) (reached p o))
 
 -- behind the name of a function
 unfoldable pub functionTailOut : List ℕ → List ℕ → ℕ → List ℕ → ℕ → ℕ → ℕ → W
@@ -41,11 +42,11 @@ memberOut text nodes count comments total indent p o =
 
 -- ---- definitions
 
--- a member, by its kind: 11 function, 12 field, 13 enum member
+-- a member, by its kind: function, field, enum member
 unfoldable pub oneOut : List ℕ → List ℕ → ℕ → List ℕ → ℕ → ℕ → ℕ → W
 oneOut text nodes count comments total indent k p o =
-    cond (eqb k 11) (functionOut text nodes count comments total indent p o)
-    (cond (eqb k 12) (fieldOut text nodes count comments total indent p o) (memberOut text nodes count comments total indent p o))
+    cond (eqb k K.Function) (functionOut text nodes count comments total indent p o)
+    (cond (eqb k K.Field) (fieldOut text nodes count comments total indent p o) (memberOut text nodes count comments total indent p o))
 
 unfoldable pub membersFrom : List ℕ → List ℕ → ℕ → List ℕ → ℕ → ℕ → ℕ → ℕ → W
 membersFrom text nodes count comments total indent k zero p o = reached p o
@@ -60,19 +61,19 @@ bodyOut text nodes count comments total indent owner k =
     ⨟ (membersFrom text nodes count comments total indent k count ⨟ (sayOut "}" ⨟ (annotationsOut text nodes count owner ⨟ sayOut "\n")))
 
 unfoldable pub extendsOut : List ℕ → List ℕ → ℕ → W
-extendsOut text nodes count p o = cond (eqb (kindAt nodes count (p .node)) 16) ((sayOut " extends " ⨟ tokenOut text nodes) p o) (reached p o)
+extendsOut text nodes count p o = cond (eqb (kindAt nodes count (p .node)) K.Name) ((sayOut " extends " ⨟ tokenOut text nodes) p o) (reached p o)
 
 unfoldable pub keywordOut : ℕ → W
 keywordOut k p o =
-    cond (eqb k 1) (sayOut "include " p o)
-    (cond (eqb k 2) (sayOut "cpp_include " p o)
-    (cond (eqb k 3) (sayOut "namespace " p o)
-    (cond (eqb k 4) (sayOut "const " p o)
-    (cond (eqb k 5) (sayOut "typedef " p o)
-    (cond (eqb k 6) (sayOut "enum " p o)
-    (cond (eqb k 7) (sayOut "struct " p o)
-    (cond (eqb k 8) (sayOut "union " p o)
-    (cond (eqb k 9) (sayOut "exception " p o) (sayOut "service " p o)))))))))
+    cond (eqb k K.Include) (sayOut "include " p o)
+    (cond (eqb k K.CppInclude) (sayOut "cpp_include " p o)
+    (cond (eqb k K.Namespace) (sayOut "namespace " p o)
+    (cond (eqb k K.Const) (sayOut "const " p o)
+    (cond (eqb k K.Typedef) (sayOut "typedef " p o)
+    (cond (eqb k K.Enum) (sayOut "enum " p o)
+    (cond (eqb k K.Struct) (sayOut "struct " p o)
+    (cond (eqb k K.Union) (sayOut "union " p o)
+    (cond (eqb k K.Exception) (sayOut "exception " p o) (sayOut "service " p o)))))))))
 
 -- a definition of one line, behind its keyword
 unfoldable pub namespaceOut : List ℕ → List ℕ → W
@@ -83,24 +84,24 @@ constOut text nodes count = typedNameOut text nodes count ⨟ (sayOut " = " ⨟ 
 
 unfoldable pub lineOut : List ℕ → List ℕ → ℕ → ℕ → W
 lineOut text nodes count k p o =
-    cond (ltb k 3) ((tokenOut text nodes ⨟ sayOut "\n") p o)
-    (cond (eqb k 3) (namespaceOut text nodes p o)
-    (cond (eqb k 4) (constOut text nodes count p o)
+    cond (ltb k K.Namespace) ((tokenOut text nodes ⨟ sayOut "\n") p o)
+    (cond (eqb k K.Namespace) (namespaceOut text nodes p o)
+    (cond (eqb k K.Const) (constOut text nodes count p o)
     ((typedNameOut text nodes count ⨟ sayOut "\n") p o)))
 
 -- a definition with a body, behind its keyword
 unfoldable pub blockOut : List ℕ → List ℕ → ℕ → List ℕ → ℕ → ℕ → ℕ → ℕ → W
 blockOut text nodes count comments total indent owner k p o =
     then (tokenOut text nodes p o)
-    (λ p o. cond (eqb k 6) (bodyOut text nodes count comments total indent owner 13 p o)
-    (cond (eqb k 10) ((extendsOut text nodes count ⨟ bodyOut text nodes count comments total indent owner 11) p o)
-    (bodyOut text nodes count comments total indent owner 12 p o)))
+    (λ p o. cond (eqb k K.Enum) (bodyOut text nodes count comments total indent owner K.EnumMember p o)
+    (cond (eqb k K.Service) ((extendsOut text nodes count ⨟ bodyOut text nodes count comments total indent owner K.Function) p o)
+    (bodyOut text nodes count comments total indent owner K.Field p o)))
 
 unfoldable pub definitionOut : List ℕ → List ℕ → ℕ → List ℕ → ℕ → ℕ → W
 definitionOut text nodes count comments total indent p o =
     let k = kindAt nodes count (p .node) in
     then (commentsOut text comments total (p .node) 0 p o)
-    (passNode ⨟ (keywordOut k ⨟ λ q o. cond (ltb k 6) (lineOut text nodes count k q o) (blockOut text nodes count comments total indent (p .node) k q o)))
+    (passNode ⨟ (keywordOut k ⨟ λ q o. cond (ltb k K.Enum) (lineOut text nodes count k q o) (blockOut text nodes count comments total indent (p .node) k q o)))
 
 unfoldable pub documentFrom : List ℕ → List ℕ → ℕ → List ℕ → ℕ → ℕ → ℕ → W
 documentFrom text nodes count comments total indent zero p o = reached p o

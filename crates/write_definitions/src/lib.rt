@@ -1,7 +1,11 @@
 // The print of functions, enum members and definitions: rico's writer/document.rs.
 ghost use Rattle.cursor.specs.Onto.{Writes};
 ghost use Rattle.write_definitions.specs.Onto.{throwsOut, onewayOut, functionTailOut, functionOut, memberOut, oneOut, membersFrom, bodyOut, extendsOut, keywordOut, namespaceOut, constOut, lineOut, blockOut, definitionOut, documentOut};
+use ast::flag;
 use cursor::Cursor;
+
+// the flags of a function that is oneway and throws
+const ONEWAY_THROWS: u32 = flag::ONEWAY + flag::THROWS;
 
 fn write_throws(
     text: &[u8],
@@ -15,7 +19,7 @@ fn write_throws(
 ) -> Cursor
     ensures { λ r. ⌜ Writes (throwsOut (now (text .entry)) (now (nodes .entry)) count (now (comments .entry)) total flags) at r (now (out .entry)) (now (out .exit)) ⌝ }
 {
-    if flags < 8 {
+    if flags < flag::THROWS {
         return at;
     }
     let opened = cursor::put(out, at, b" throws (");
@@ -26,10 +30,10 @@ fn write_throws(
 fn write_oneway(out: &mut [u8], at: Cursor, flags: u32) -> Cursor
     ensures { λ r. ⌜ Writes (onewayOut flags) at r (now (out .entry)) (now (out .exit)) ⌝ }
 {
-    if flags == 4 {
+    if flags == flag::ONEWAY {
         return cursor::put(out, at, b"oneway ");
     }
-    if flags == 12 {
+    if flags == ONEWAY_THROWS {
         return cursor::put(out, at, b"oneway ");
     }
     at
@@ -118,7 +122,7 @@ fn write_member(
     cursor::put(out, annotated, b",\n")
 }
 
-// a member, by its kind: 11 function, 12 field, 13 enum member
+// a member, by its kind: function, field, enum member
 fn write_one(
     text: &[u8],
     nodes: &[u32],
@@ -132,10 +136,10 @@ fn write_one(
 ) -> Cursor
     ensures { λ r. ⌜ Writes (oneOut (now (text .entry)) (now (nodes .entry)) count (now (comments .entry)) total indent kind) at r (now (out .entry)) (now (out .exit)) ⌝ }
 {
-    if kind == 11 {
+    if kind == ast::kind::FUNCTION {
         return write_function(text, nodes, count, comments, total, out, at, indent);
     }
-    if kind == 12 {
+    if kind == ast::kind::FIELD {
         return write_fields::write_field(text, nodes, count, comments, total, out, at, indent);
     }
     write_member(text, nodes, count, comments, total, out, at, indent)
@@ -201,7 +205,7 @@ fn write_body(
 fn write_extends(text: &[u8], nodes: &[u32], count: u32, out: &mut [u8], at: Cursor) -> Cursor
     ensures { λ r. ⌜ Writes (extendsOut (now (text .entry)) (now (nodes .entry)) count) at r (now (out .entry)) (now (out .exit)) ⌝ }
 {
-    if cursor::kind_at(nodes, count, at.node) != 16 {
+    if cursor::kind_at(nodes, count, at.node) != ast::kind::NAME {
         return at;
     }
     let extends = cursor::put(out, at, b" extends ");
@@ -211,31 +215,31 @@ fn write_extends(text: &[u8], nodes: &[u32], count: u32, out: &mut [u8], at: Cur
 fn put_keyword(out: &mut [u8], at: Cursor, kind: u32) -> Cursor
     ensures { λ r. ⌜ Writes (keywordOut kind) at r (now (out .entry)) (now (out .exit)) ⌝ }
 {
-    if kind == 1 {
+    if kind == ast::kind::INCLUDE {
         return cursor::put(out, at, b"include ");
     }
-    if kind == 2 {
+    if kind == ast::kind::CPP_INCLUDE {
         return cursor::put(out, at, b"cpp_include ");
     }
-    if kind == 3 {
+    if kind == ast::kind::NAMESPACE {
         return cursor::put(out, at, b"namespace ");
     }
-    if kind == 4 {
+    if kind == ast::kind::CONST {
         return cursor::put(out, at, b"const ");
     }
-    if kind == 5 {
+    if kind == ast::kind::TYPEDEF {
         return cursor::put(out, at, b"typedef ");
     }
-    if kind == 6 {
+    if kind == ast::kind::ENUM {
         return cursor::put(out, at, b"enum ");
     }
-    if kind == 7 {
+    if kind == ast::kind::STRUCT {
         return cursor::put(out, at, b"struct ");
     }
-    if kind == 8 {
+    if kind == ast::kind::UNION {
         return cursor::put(out, at, b"union ");
     }
-    if kind == 9 {
+    if kind == ast::kind::EXCEPTION {
         return cursor::put(out, at, b"exception ");
     }
     cursor::put(out, at, b"service ")
@@ -272,14 +276,14 @@ fn write_line(
 ) -> Cursor
     ensures { λ r. ⌜ Writes (lineOut (now (text .entry)) (now (nodes .entry)) count kind) at r (now (out .entry)) (now (out .exit)) ⌝ }
 {
-    if kind < 3 {
+    if kind < ast::kind::NAMESPACE {
         let named = cursor::put_token(text, nodes, out, at);
         return cursor::put(out, named, b"\n");
     }
-    if kind == 3 {
+    if kind == ast::kind::NAMESPACE {
         return write_namespace(text, nodes, out, at);
     }
-    if kind == 4 {
+    if kind == ast::kind::CONST {
         return write_const(text, nodes, count, out, at);
     }
     let typed = write_fields::write_typed_name(text, nodes, count, out, at);
@@ -302,7 +306,7 @@ fn write_block(
     ensures { λ r. ⌜ Writes (blockOut (now (text .entry)) (now (nodes .entry)) count (now (comments .entry)) total indent owner kind) at r (now (out .entry)) (now (out .exit)) ⌝ }
 {
     let named = cursor::put_token(text, nodes, out, at);
-    if kind == 6 {
+    if kind == ast::kind::ENUM {
         return write_body(
             text,
             nodes,
@@ -313,10 +317,10 @@ fn write_block(
             named,
             indent,
             owner,
-            13,
+            ast::kind::ENUM_MEMBER,
         );
     }
-    if kind == 10 {
+    if kind == ast::kind::SERVICE {
         let extended = write_extends(text, nodes, count, out, named);
         return write_body(
             text,
@@ -328,7 +332,7 @@ fn write_block(
             extended,
             indent,
             owner,
-            11,
+            ast::kind::FUNCTION,
         );
     }
     write_body(
@@ -341,7 +345,7 @@ fn write_block(
         named,
         indent,
         owner,
-        12,
+        ast::kind::FIELD,
     )
 }
 
@@ -361,7 +365,7 @@ fn write_definition(
     let kind = cursor::kind_at(nodes, count, at.node);
     let noted = cursor::put_comments(text, comments, total, out, at, at.node, 0);
     let word = put_keyword(out, cursor::pass_node(noted), kind);
-    if kind < 6 {
+    if kind < ast::kind::ENUM {
         return write_line(text, nodes, count, out, word, kind);
     }
     write_block(

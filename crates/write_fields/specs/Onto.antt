@@ -6,6 +6,7 @@ use Prim.Native.Nat.{ℕ, zero, suc}
 use Prim.Native.String.{String}
 use lib.Dec.{eqb, ltb}
 use Rattle.token.specs.Regex.{bytes as ascii}
+use Rattle.ast.specs.Kind as K
 use Rattle.cursor.specs.Onto.{reached, W, then, _⨟_, numberAt, kindAt, parentAt, passNode, stay, putOut, sayOut, tokenOut, spacesOut, commentsOut, passComments, passBelow}
 
 -- ---- types and values
@@ -20,9 +21,9 @@ unfoldable pub typeOut : List ℕ → List ℕ → ℕ → ℕ → W
 typeOut text nodes count zero p o = tokenOut text nodes p o
 typeOut text nodes count (suc d) p o =
     let k = kindAt nodes count (p .node) in
-    cond (eqb k 20) (containerOut (ascii "list<") (typeOut text nodes count d) p o)
-    (cond (eqb k 21) (containerOut (ascii "set<") (typeOut text nodes count d) p o)
-    (cond (eqb k 22) (mapTypeOut (typeOut text nodes count d) p o)
+    cond (eqb k K.List) (containerOut (ascii "list<") (typeOut text nodes count d) p o)
+    (cond (eqb k K.Set) (containerOut (ascii "set<") (typeOut text nodes count d) p o)
+    (cond (eqb k K.Map) (mapTypeOut (typeOut text nodes count d) p o)
     (tokenOut text nodes p o)))
 
 -- `, ` before each but the first
@@ -47,8 +48,8 @@ unfoldable pub valueOut : List ℕ → List ℕ → ℕ → ℕ → W
 valueOut text nodes count zero p o = tokenOut text nodes p o
 valueOut text nodes count (suc d) p o =
     let k = kindAt nodes count (p .node) in
-    cond (eqb k 29) (bracketsOut nodes count "[" "]" (valueOut text nodes count d) p o)
-    (cond (eqb k 30) (bracketsOut nodes count "{" "}" (propertyOut (valueOut text nodes count d)) p o)
+    cond (eqb k K.ListValue) (bracketsOut nodes count "[" "]" (valueOut text nodes count d) p o)
+    (cond (eqb k K.MapValue) (bracketsOut nodes count "{" "}" (propertyOut (valueOut text nodes count d)) p o)
     (tokenOut text nodes p o))
 
 -- ---- annotations
@@ -60,7 +61,7 @@ annotationOut text nodes = passNode ⨟ (tokenOut text nodes ⨟ (sayOut " = " �
 unfoldable pub annotationsOut : List ℕ → List ℕ → ℕ → ℕ → W
 annotationsOut text nodes count owner p o =
     cond (eqb (parentAt nodes count (p .node)) owner)
-    (cond (eqb (kindAt nodes count (p .node)) 14)
+    (cond (eqb (kindAt nodes count (p .node)) K.Annotations)
     (bracketsOut nodes count " (" ")" (annotationOut text nodes) p o)
     (reached p o))
     (reached p o)
@@ -68,14 +69,14 @@ annotationsOut text nodes count owner p o =
 -- ---- fields
 
 unfoldable pub idOut : List ℕ → List ℕ → ℕ → W
-idOut text nodes count p o = cond (eqb (kindAt nodes count (p .node)) 17) ((tokenOut text nodes ⨟ sayOut ": ") p o) (reached p o)
+idOut text nodes count p o = cond (eqb (kindAt nodes count (p .node)) K.FieldId) ((tokenOut text nodes ⨟ sayOut ": ") p o) (reached p o)
 
 unfoldable pub requiredOut : ℕ → W
-requiredOut f p o = cond (eqb f 1) (sayOut "required " p o) (cond (eqb f 2) (sayOut "optional " p o) (reached p o))
+requiredOut f p o = cond (eqb f K.Required) (sayOut "required " p o) (cond (eqb f K.Optional) (sayOut "optional " p o) (reached p o))
 
 -- ` = ` and what follows it, if the next node is the owner's and no annotations
 unfoldable pub hasValue : List ℕ → ℕ → ℕ → ℕ → Bool
-hasValue nodes count owner n = cond (eqb (parentAt nodes count n) owner) (cond (eqb (kindAt nodes count n) 14) false true) false
+hasValue nodes count owner n = cond (eqb (parentAt nodes count n) owner) (cond (eqb (kindAt nodes count n) K.Annotations) false true) false
 
 unfoldable pub assignedOut : List ℕ → ℕ → ℕ → W → W
 assignedOut nodes count owner value p o = cond (hasValue nodes count owner (p .node)) ((sayOut " = " ⨟ value) p o) (reached p o)
@@ -101,12 +102,12 @@ paramOut text nodes count comments total p o =
 
 -- a field that is thrown, or one that is not
 unfoldable pub isOf : Bool → ℕ → Bool
-isOf thrown f = cond (ltb f 16) (cond thrown false true) thrown
+isOf thrown f = cond (ltb f K.Thrown) (cond thrown false true) thrown
 
 unfoldable pub paramsFrom : List ℕ → List ℕ → ℕ → List ℕ → ℕ → Bool → Bool → ℕ → W
 paramsFrom text nodes count comments total thrown first zero p o = reached p o
 paramsFrom text nodes count comments total thrown first (suc n) p o =
-    cond (eqb (kindAt nodes count (p .node)) 12)
+    cond (eqb (kindAt nodes count (p .node)) K.Field)
     (cond (isOf thrown (numberAt nodes (p .node) 2))
     ((commaOut first ⨟ (paramOut text nodes count comments total ⨟ paramsFrom text nodes count comments total thrown false n)) p o)
     (reached p o))

@@ -3,6 +3,7 @@ ghost use mathlib.Core.Path.{_≡_};
 ghost use mathlib.Core.Bool.{true};
 ghost use Rattle.cursor.specs.Onto.{Writes, tokenOut};
 ghost use Rattle.write_fields.specs.Onto.{containerOut, mapTypeOut, typeOut, commaOut, eachOut, propertyOut, bracketsOut, valueOut, annotationOut, annotationsOut, idOut, requiredOut, hasValue, assignedOut, typedNameOut, fieldHeadOut, fieldOut, paramOut, isOf, paramsOut};
+use ast::flag;
 use cursor::Cursor;
 use parser::NESTING;
 
@@ -56,13 +57,13 @@ fn write_type(
         return cursor::put_token(text, nodes, out, at);
     }
     let kind = cursor::kind_at(nodes, count, at.node);
-    if kind == 20 {
+    if kind == ast::kind::LIST {
         return write_container(text, nodes, count, out, at, b"list<", depth - 1);
     }
-    if kind == 21 {
+    if kind == ast::kind::SET {
         return write_container(text, nodes, count, out, at, b"set<", depth - 1);
     }
-    if kind == 22 {
+    if kind == ast::kind::MAP {
         return write_map_type(text, nodes, count, out, at, depth - 1);
     }
     cursor::put_token(text, nodes, out, at)
@@ -93,10 +94,10 @@ pub fn write_value(
         return cursor::put_token(text, nodes, out, at);
     }
     let kind = cursor::kind_at(nodes, count, at.node);
-    if kind == 29 {
+    if kind == ast::kind::LIST_VALUE {
         return write_list(text, nodes, count, out, at, depth - 1);
     }
-    if kind == 30 {
+    if kind == ast::kind::MAP_VALUE {
         return write_map(text, nodes, count, out, at, depth - 1);
     }
     cursor::put_token(text, nodes, out, at)
@@ -249,7 +250,7 @@ pub fn write_annotations(
     if cursor::parent_at(nodes, count, at.node) != owner {
         return at;
     }
-    if cursor::kind_at(nodes, count, at.node) != 14 {
+    if cursor::kind_at(nodes, count, at.node) != ast::kind::ANNOTATIONS {
         return at;
     }
     let opened = cursor::put(out, cursor::pass_node(at), b" (");
@@ -261,7 +262,7 @@ pub fn write_annotations(
 fn write_id(text: &[u8], nodes: &[u32], count: u32, out: &mut [u8], at: Cursor) -> Cursor
     ensures { λ r. ⌜ Writes (idOut (now (text .entry)) (now (nodes .entry)) count) at r (now (out .entry)) (now (out .exit)) ⌝ }
 {
-    if cursor::kind_at(nodes, count, at.node) != 17 {
+    if cursor::kind_at(nodes, count, at.node) != ast::kind::FIELD_ID {
         return at;
     }
     let id = cursor::put_token(text, nodes, out, at);
@@ -271,10 +272,10 @@ fn write_id(text: &[u8], nodes: &[u32], count: u32, out: &mut [u8], at: Cursor) 
 fn write_required(out: &mut [u8], at: Cursor, flags: u32) -> Cursor
     ensures { λ r. ⌜ Writes (requiredOut flags) at r (now (out .entry)) (now (out .exit)) ⌝ }
 {
-    if flags == 1 {
+    if flags == flag::REQUIRED {
         return cursor::put(out, at, b"required ");
     }
-    if flags == 2 {
+    if flags == flag::OPTIONAL {
         return cursor::put(out, at, b"optional ");
     }
     at
@@ -287,7 +288,7 @@ fn has_value(nodes: &[u32], count: u32, at: Cursor, owner: u32) -> bool
     if cursor::parent_at(nodes, count, at.node) != owner {
         return false;
     }
-    cursor::kind_at(nodes, count, at.node) != 14
+    cursor::kind_at(nodes, count, at.node) != ast::kind::ANNOTATIONS
 }
 
 // ` = ` and a value, if the owner has one
@@ -417,7 +418,7 @@ fn write_param(
 fn is_of(thrown: bool, flags: u32) -> bool
     ensures { λ r. ⌜ r ≡ isOf thrown flags ⌝ }
 {
-    if flags < 16 {
+    if flags < flag::THROWN {
         return !thrown;
     }
     thrown
@@ -440,7 +441,7 @@ pub fn write_params(
     let mut first = true;
     let mut left = count;
     while 0 < left {
-        if cursor::kind_at(nodes, count, now.node) != 12 {
+        if cursor::kind_at(nodes, count, now.node) != ast::kind::FIELD {
             return now;
         }
         if !is_of(thrown, cursor::number_at(nodes, now.node, 2)) {

@@ -4,6 +4,7 @@ use mathlib.Core.List.{List, [], _∷_, _++_}
 use Prim.Native.Nat.{ℕ, _-_}
 use lib.Dec.{ltb}
 use lib.ListN.{length, getD, replicate}
+use Rattle.lexer.specs.Error.{TextTooLong, IndentTooWide, OutputFull}
 use Rattle.lexer.specs.Outcome.{Outcome, accepted, refused}
 use Rattle.lexer.specs.Check.{limit}
 use Rattle.ast.specs.Ast.{Definition}
@@ -19,11 +20,11 @@ widest = 8
 
 -- 20, then 26, then the rest as in a reading
 unfoldable pub outcomeAt : ℕ → List ℕ → Outcome (List Definition)
-outcomeAt indent t = cond (ltb limit (length t)) (refused 20 0 0) (cond (ltb widest indent) (refused 26 0 0) (outcome t))
+outcomeAt indent t = cond (ltb limit (length t)) (refused TextTooLong 0 0) (cond (ltb widest indent) (refused IndentTooWide 0 0) (outcome t))
 
 -- then 27; the bytes written stand behind the counts
 unfoldable pub fittedOut : Outcome (List ℕ) → List ℕ → List ℕ → Outcome (List ℕ)
-fittedOut (accepted ns) print out = cond (ltb (length out) (length print)) (refused 27 0 0) (accepted (ns ++ length print ∷ []))
+fittedOut (accepted ns) print out = cond (ltb (length out) (length print)) (refused OutputFull 0 0) (accepted (ns ++ length print ∷ []))
 fittedOut (refused e p n) print out = refused e p n
 
 -- the bytes written, of an accepted printing's numbers
