@@ -41,14 +41,13 @@ fn main() {
     assert_eq!(check(&text), 0, "the text is refused");
     let mut out = vec![0; text.len()];
     println!("{:>8} {:>12} {:>12}", "bytes", "check MB/s", "copy MB/s");
-    let mut size = 1024;
-    while size <= text.len() {
+    let doubled = (10..).map(|power| 1 << power).take_while(|size| *size < text.len());
+    for size in doubled.chain([text.len()]) {
         let part = &text[..size];
         let ours = best(size, || {
             black_box(check(black_box(part)));
         });
         let plain = best(size, || copy(black_box(part), black_box(&mut out[..size])));
         println!("{size:>8} {ours:>12.0} {plain:>12.0}");
-        size *= 2;
     }
 }
