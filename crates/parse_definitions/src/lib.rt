@@ -32,6 +32,7 @@ fn close(rest: &mut [u32], st: State, state: State, kind: u32)
 }
 
 // parse_include, parse_cpp_include
+// Include ::= ('include' | 'cpp_include') string
 fn parse_include(
     class: &[u8; 256],
     trie: &[u8; 512],
@@ -104,6 +105,7 @@ fn parse_scope(
 }
 
 // parse_namespace
+// Namespace ::= 'namespace' (name | '*') name
 fn parse_namespace(
     class: &[u8; 256],
     trie: &[u8; 512],
@@ -159,6 +161,7 @@ fn parse_typed_name(
 }
 
 // parse_const: separators and comments behind the value are taken, and lie outside its range.
+// Const ::= 'const' Type name '=' Value (Separator | Comment)*
 fn parse_const(
     class: &[u8; 256],
     trie: &[u8; 512],
@@ -204,6 +207,7 @@ fn parse_const(
 }
 
 // parse_typedef
+// Typedef ::= 'typedef' Type name
 fn parse_typedef(
     class: &[u8; 256],
     trie: &[u8; 512],
@@ -234,6 +238,7 @@ fn parse_typedef(
 }
 
 // parse_enum
+// Enum ::= 'enum' name '{' EnumMember* '}' Annotations?
 fn parse_enum(
     class: &[u8; 256],
     trie: &[u8; 512],
@@ -281,6 +286,7 @@ fn parse_enum(
 }
 
 // parse_struct_like: struct, union, exception
+// Structure ::= ('struct' | 'union' | 'exception') name '{' Field* '}' Annotations?
 fn parse_structure(
     class: &[u8; 256],
     trie: &[u8; 512],
@@ -332,6 +338,7 @@ fn parse_structure(
 }
 
 // The service that another extends, if it names one.
+// Extends ::= 'extends' name
 fn parse_extends(
     class: &[u8; 256],
     trie: &[u8; 512],
@@ -390,6 +397,7 @@ fn parse_service_head(
 }
 
 // parse_service
+// Service ::= 'service' name Extends? '{' Function* '}' Annotations?
 fn parse_service(
     class: &[u8; 256],
     trie: &[u8; 512],
@@ -428,6 +436,7 @@ fn parse_service(
 }
 
 // The definition whose keyword is ahead.
+// Definition ::= Include | Namespace | Const | Typedef | Enum | Structure | Service
 pub fn parse_definition(
     class: &[u8; 256],
     trie: &[u8; 512],

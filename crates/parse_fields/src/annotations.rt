@@ -8,6 +8,7 @@ use steps::state::State;
 use steps::table;
 
 // A name, `=`, a string, and at most one separator.
+// Annotation ::= name '=' string Separator?
 fn parse_annotation(
     class: &[u8; 256],
     trie: &[u8; 512],
@@ -125,6 +126,7 @@ pub fn parse_annotations(
 }
 
 // They start at the token before the bracket, which is ahead.
+// Annotations ::= '(' (Comment* Annotation)* Comment* ')'
 fn parse_some_annotations(
     class: &[u8; 256],
     trie: &[u8; 512],

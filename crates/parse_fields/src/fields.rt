@@ -14,6 +14,7 @@ use steps::state::State;
 use steps::table;
 
 // parse_field_id; without an id the first token, of any kind, is passed over.
+// FieldId ::= integer ':' | token
 fn parse_field_id(
     class: &[u8; 256],
     trie: &[u8; 512],
@@ -62,6 +63,7 @@ fn required_flag(kind: u32) -> u32
 }
 
 // Past a requiredness, if it is there.
+// Required ::= 'required' | 'optional'
 fn skip_required(class: &[u8; 256], trie: &[u8; 512], text: &[u8], st: State) -> State
     requires { ⌜ Lent (now class) (now trie) (now text) ⌝ }
     ensures { λ r. ⌜ r ≡ skipRequired (now (text .entry)) st ⌝ }
@@ -127,6 +129,7 @@ fn parse_field_name(
 }
 
 // The default value, if there is one.
+// Default ::= '=' Value
 fn parse_default(
     class: &[u8; 256],
     trie: &[u8; 512],
@@ -188,6 +191,7 @@ fn parse_field_tail(
 }
 
 // parse_field; `flag` is THROWN for a thrown field, else 0.
+// Field ::= FieldId Required? Type FieldName Default? Annotations?
 fn parse_field(
     class: &[u8; 256],
     trie: &[u8; 512],
@@ -231,6 +235,7 @@ fn parse_field(
 }
 
 // parse_members and parse_parameters over fields: from `opener` to `closer`.
+// Fields ::= open (Separator* Comment* Field)* Separator* Comment* close
 pub fn parse_fields(
     class: &[u8; 256],
     trie: &[u8; 512],

@@ -28,6 +28,7 @@ fn parse_initializer(
 }
 
 // The number of a member, its `=` ahead.
+// Initializer ::= '=' (hex | integer)
 fn parse_number(
     class: &[u8; 256],
     trie: &[u8; 512],
@@ -70,6 +71,7 @@ fn parse_number(
 }
 
 // parse_enum_member
+// EnumMember ::= name Initializer? Annotations?
 fn parse_enum_member(
     class: &[u8; 256],
     trie: &[u8; 512],
@@ -121,6 +123,7 @@ fn parse_enum_member(
 }
 
 // The members of an enum, in braces.
+// '{' (Separator* Comment* EnumMember)* Separator* Comment* '}'
 pub fn parse_enum_members(
     class: &[u8; 256],
     trie: &[u8; 512],

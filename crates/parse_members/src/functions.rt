@@ -13,6 +13,7 @@ use steps::state::State;
 use steps::table;
 
 // The thrown fields, if `throws` is written.
+// Throws ::= 'throws' '(' Field* ')'
 fn parse_throws(
     class: &[u8; 256],
     trie: &[u8; 512],
@@ -46,6 +47,7 @@ fn parse_throws(
 }
 
 // `void`, or a type.
+// ReturnType ::= 'void' | Type
 fn parse_return_type(
     class: &[u8; 256],
     trie: &[u8; 512],
@@ -136,6 +138,7 @@ fn parse_function_tail(
 }
 
 // parse_function: its range starts at its name.
+// Function ::= 'oneway'? ReturnType name '(' Field* ')' Throws? (Separator | Comment)* Annotations?
 fn parse_function(
     class: &[u8; 256],
     trie: &[u8; 512],
@@ -194,6 +197,7 @@ fn parse_function(
 }
 
 // The functions of a service, in braces.
+// '{' (Separator* Comment* Function)* Separator* Comment* '}'
 pub fn parse_functions(
     class: &[u8; 256],
     trie: &[u8; 512],

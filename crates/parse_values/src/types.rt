@@ -42,6 +42,7 @@ fn container_type(kind: u32) -> u32
 }
 
 // parse_field_type with `depth` containers left: the next one inside is 23 at its keyword.
+// Type ::= keyword | name | ('list' | 'set') '<' Type '>' | 'map' '<' Type ',' Type '>'
 pub fn parse_type(
     class: &[u8; 256],
     trie: &[u8; 512],

@@ -44,6 +44,7 @@ fn is_opener(kind: u32) -> bool
 }
 
 // parse_field_value with `depth` containers left: the next one inside is 23 at its bracket.
+// Value ::= string | integer | double | boolean | hex | name | List | Map
 pub fn parse_value(
     class: &[u8; 256],
     trie: &[u8; 512],
@@ -78,6 +79,7 @@ pub fn parse_value(
 }
 
 // parse_list_value: behind the bracket.
+// List ::= '[' (Separator* Comment* Value)* Separator* Comment* ']'
 fn parse_list_value(
     class: &[u8; 256],
     trie: &[u8; 512],
@@ -141,6 +143,7 @@ fn parse_elements(
 }
 
 // parse_map_value: behind the brace.
+// Map ::= '{' (Separator* Comment* Property)* Separator* Comment* '}'
 fn parse_map_value(
     class: &[u8; 256],
     trie: &[u8; 512],
@@ -204,6 +207,7 @@ fn parse_properties(
 }
 
 // A property: two values with a colon between.
+// Property ::= Value ':' Value
 fn parse_property(
     class: &[u8; 256],
     trie: &[u8; 512],

@@ -62,6 +62,7 @@ parseValue = fieldValue nesting
 unfoldable pub oneSeparator : P (Unit {0})
 oneSeparator = when separators (do next; pure tt) (pure tt)
 
+-- Annotation ::= name '=' string Separator?
 unfoldable pub parseAnnotation : P Annotation
 parseAnnotation = do
   t ← want (T.Identifier ∷ []) UnexpectedToken
@@ -76,6 +77,7 @@ annotationsEnd = do
   closed T.RightParen
 
 -- parse_annotations: they start at the token before `(`
+-- Annotations ::= '(' (Comment* Annotation)* Comment* ')'
 unfoldable pub parseAnnotations : P Annotations
 parseAnnotations =
     when (T.LeftParen ∷ [])
@@ -100,6 +102,7 @@ isId [] = false
 isId (c ∷ w) = not (eqb c 45) && ltb (cond (eqb c 43) (decimal 0 w) (decimal 0 (c ∷ w))) (2 ^ 64)
 
 -- parse_field_id; without an id the first token, of any kind, is passed over
+-- FieldId ::= integer ':' | token
 unfoldable pub parseFieldId : P (Option Lexeme)
 parseFieldId =
     when (T.IntegerLiteral ∷ [])
@@ -108,6 +111,7 @@ parseFieldId =
       test (isId (bytes t)) (do want (T.Colon ∷ []) UnexpectedToken; pure (some t)) (refuse InvalidFieldId t))
     (do next; pure none)
 
+-- Required ::= 'required' | 'optional'
 unfoldable pub parseRequired : P Required
 parseRequired =
     when (T.Required ∷ []) (do next; pure required)
@@ -119,9 +123,11 @@ fieldNames =
     T.Identifier ∷ T.Namespace ∷ T.Include ∷ T.List ∷ T.Map ∷ T.Set ∷ T.Oneway ∷ T.Required ∷ T.Optional ∷ T.Throws ∷ T.Bool ∷ T.Byte ∷ T.I8 ∷ T.I16
     ∷ T.I32 ∷ T.I64 ∷ T.String ∷ T.Binary ∷ T.Extends ∷ T.Struct ∷ T.Double ∷ T.Service ∷ T.Enum ∷ []
 
+-- Default ::= '=' Value
 unfoldable pub parseDefault : P (Option FieldInitialValue)
 parseDefault = when (T.Equals ∷ []) (do next; v ← parseValue; pure (some v)) (pure none)
 
+-- Field ::= FieldId Required? Type FieldName Default? Annotations?
 unfoldable pub parseField : P Field
 parseField = do
   c ← taken
@@ -143,6 +149,7 @@ membersEnd k = do
   skip-comments
   closed k
 
+-- X* in brackets, of members X, is (Separator* Comment* X)* Separator* Comment*
 unfoldable pub parseMembers : {A : Type 0} → Token → Token → P A → P (List A)
 parseMembers l r p = do
   want (l ∷ []) UnexpectedToken
@@ -153,15 +160,18 @@ parseParameters = parseMembers T.LeftParen T.RightParen parseField
 
 -- ---- functions
 
+-- Throws ::= 'throws' '(' Field* ')'
 unfoldable pub parseThrows : P (Option (List Field))
 parseThrows = when (T.Throws ∷ []) (do next; fs ← parseParameters; pure (some fs)) (pure none)
 
+-- ReturnType ::= 'void' | Type
 unfoldable pub parseReturnType : P FieldType
 parseReturnType = when (T.Void ∷ []) (do t ← next; pure (CommonType t)) parseType
 
 unfoldable pub parseOneway : P Bool
 parseOneway = when (T.Oneway ∷ []) (do next; pure true) (pure false)
 
+-- Function ::= 'oneway'? ReturnType name '(' Field* ')' Throws? (Separator | Comment)* Annotations?
 unfoldable pub parseFunction : P Function
 parseFunction = do
   c ← taken
@@ -177,6 +187,7 @@ parseFunction = do
 
 -- ---- enum members
 
+-- Initializer ::= '=' (hex | integer)
 unfoldable pub parseInitializer : P (Option Lexeme)
 parseInitializer =
     when (T.Equals ∷ [])
@@ -186,6 +197,7 @@ parseInitializer =
       pure (some t))
     (pure none)
 
+-- EnumMember ::= name Initializer? Annotations?
 unfoldable pub parseEnumMember : P EnumMember
 parseEnumMember = do
   c ← taken
@@ -197,6 +209,7 @@ parseEnumMember = do
 
 -- ---- definitions, the keyword in hand
 
+-- Include ::= ('include' | 'cpp_include') string
 unfoldable pub parseInclude : (LOC → List Lexeme → Lexeme → Definition) → P Definition
 parseInclude create = do
   c ← taken
@@ -204,6 +217,7 @@ parseInclude create = do
   m ← want (T.StringLiteral ∷ []) MissingIncludeIdentifier
   pure (create (span (place k) (place m)) c m)
 
+-- Namespace ::= 'namespace' (name | '*') name
 unfoldable pub parseNamespace : P Definition
 parseNamespace = do
   c ← taken
@@ -212,6 +226,7 @@ parseNamespace = do
   m ← want (T.Identifier ∷ []) MissingNamespaceIdentifier
   pure (Namespace (span (place k) (place m)) c s m)
 
+-- Const ::= 'const' Type name '=' Value (Separator | Comment)*
 unfoldable pub parseConst : P Definition
 parseConst = do
   c ← taken
@@ -224,6 +239,7 @@ parseConst = do
   skip-trivia
   pure (Const (span (place k) e) c t m v)
 
+-- Typedef ::= 'typedef' Type name
 unfoldable pub parseTypedef : P Definition
 parseTypedef = do
   c ← taken
@@ -232,6 +248,7 @@ parseTypedef = do
   m ← want (T.Identifier ∷ []) MissingTypedefIdentifier
   pure (Typedef (span (place k) (place m)) c t m)
 
+-- Enum ::= 'enum' name '{' EnumMember* '}' Annotations?
 unfoldable pub parseEnum : P Definition
 parseEnum = do
   c ← taken
@@ -243,6 +260,7 @@ parseEnum = do
   pure (Enum (span (place k) e) c m xs a)
 
 -- parse_struct_like
+-- Structure ::= ('struct' | 'union' | 'exception') name '{' Field* '}' Annotations?
 unfoldable pub parseStructure : Structure → P Definition
 parseStructure s = do
   c ← taken
@@ -253,9 +271,11 @@ parseStructure s = do
   e ← here
   pure (structure s (span (place k) e) c m xs a)
 
+-- Extends ::= 'extends' name
 unfoldable pub parseExtends : P (Option Lexeme)
 parseExtends = when (T.Extends ∷ []) (do next; t ← want (T.Identifier ∷ []) MissingServiceExtends; pure (some t)) (pure none)
 
+-- Service ::= 'service' name Extends? '{' Function* '}' Annotations?
 unfoldable pub parseService : P Definition
 parseService = do
   c ← taken
@@ -269,6 +289,7 @@ parseService = do
 
 -- ---- the document: parse of parser/mod.rs
 
+-- Definition ::= Include | Namespace | Const | Typedef | Enum | Structure | Service
 unfoldable pub parseDefinition : P Definition
 parseDefinition =
     when (T.Include ∷ []) (parseInclude Include)
@@ -295,5 +316,6 @@ documentEnd = do
   skip-separator
   over
 
+-- Document ::= (Gap Definition)* Gap; Gap ::= Separator* Comment* Separator*
 unfoldable pub parseDocument : P (List Definition)
 parseDocument = many [] _∷_ documentEnd parseDefinition

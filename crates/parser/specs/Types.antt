@@ -50,6 +50,7 @@ typeBy inside = do
   test (among (kind t) leafTypes) (pure (CommonType t)) (test (among (kind t) containerTypes) (inside t) (refuse UnsupportedType t))
 
 -- parse_field_type, with so many containers left: the next one inside is 23 at its keyword
+-- Type ::= keyword | name | ('list' | 'set') '<' Type '>' | 'map' '<' Type ',' Type '>'
 unfoldable pub fieldType : ℕ → P FieldType
 fieldType zero = typeBy (refuse TooDeep)
 fieldType (suc d) = typeBy (containerType (fieldType d))

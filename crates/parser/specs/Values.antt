@@ -31,6 +31,7 @@ pub data Property : Type 0 where
 unfoldable pub put : Property → Properties → Properties
 put (property l k v) ps = pcons l k v ps
 
+-- Property ::= Value ':' Value
 unfoldable pub mapProperty : P FieldInitialValue → P Property
 mapProperty value = do
   b ← start
@@ -41,12 +42,14 @@ mapProperty value = do
   pure (property (span b e) k v)
 
 -- parse_list_value, parse_map_value: the bracket t was taken
+-- List ::= '[' (Separator* Comment* Value)* Separator* Comment* ']'
 unfoldable pub listValue : P FieldInitialValue → Lexeme → P FieldInitialValue
 listValue value t = do
   vs ← many nil cons (valuesEnd T.RightBracket) value
   e ← here
   pure (ConstList (span (place t) e) vs)
 
+-- Map ::= '{' (Separator* Comment* Property)* Separator* Comment* '}'
 unfoldable pub mapValue : P FieldInitialValue → Lexeme → P FieldInitialValue
 mapValue value t = do
   ps ← many pnil put (valuesEnd T.RightBrace) (mapProperty value)
@@ -63,6 +66,7 @@ valueBy inside = do
   test (among (kind t) leafValues) (pure (ConstValue t)) (test (among (kind t) openers) (inside t) (refuse InvalidValueDeclaration t))
 
 -- parse_field_value, with so many containers left: the next one inside is 23 at its bracket
+-- Value ::= string | integer | double | boolean | hex | name | List | Map
 unfoldable pub fieldValue : ℕ → P FieldInitialValue
 fieldValue zero = valueBy (refuse TooDeep)
 fieldValue (suc d) = valueBy (containerValue (fieldValue d))

@@ -69,6 +69,7 @@ fn between(
 }
 
 // parse: all definitions.
+// Document ::= (Gap Definition)* Gap; Gap ::= Separator* Comment* Separator*
 fn parse_document(
     class: &[u8; 256],
     trie: &[u8; 512],
