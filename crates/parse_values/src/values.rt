@@ -129,8 +129,8 @@ fn parse_elements(
 {
     let mut state = st;
     loop {
-        let over = steps::skip(class, trie, text, state, true);
-        let found = steps::skip(class, trie, text, over, false);
+        let over = steps::skip_all(class, trie, text, state, true);
+        let found = steps::skip_all(class, trie, text, over, false);
         if found.kind == token::kind::RIGHT_BRACKET {
             return steps::take(class, trie, text, found);
         }
@@ -193,8 +193,8 @@ fn parse_properties(
 {
     let mut state = st;
     loop {
-        let over = steps::skip(class, trie, text, state, true);
-        let found = steps::skip(class, trie, text, over, false);
+        let over = steps::skip_all(class, trie, text, state, true);
+        let found = steps::skip_all(class, trie, text, over, false);
         if found.kind == token::kind::RIGHT_BRACE {
             return steps::take(class, trie, text, found);
         }

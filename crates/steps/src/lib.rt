@@ -155,7 +155,8 @@ pub fn skip(class: &[u8; 256], trie: &[u8; 512], text: &[u8], st: State, separat
     st
 }
 
-fn skip_all(class: &[u8; 256], trie: &[u8; 512], text: &[u8], st: State, separators: bool) -> State
+// The loop itself, for where there usually is something to skip.
+pub fn skip_all(class: &[u8; 256], trie: &[u8; 512], text: &[u8], st: State, separators: bool) -> State
     requires { ⌜ Lent (now class) (now trie) (now text) ⌝ }
     ensures { λ r. ⌜ r ≡ passed (now (text .entry)) separators st ⌝ }
 {

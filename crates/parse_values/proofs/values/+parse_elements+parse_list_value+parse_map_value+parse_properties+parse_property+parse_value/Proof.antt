@@ -38,7 +38,7 @@ use Rattle.parse_values.proofs.values.parse_value.Kinds as parse-value-
 use Rattle.parse_values.proofs.values.+parse_elements+parse_list_value+parse_map_value+parse_properties+parse_property+parse_value.Lts-parse_value as parse-value-lts
 use Rattle.steps.proofs.expect.Reads as expect-reads
 use Rattle.steps.proofs.refuse.Reads as refuse-reads
-use Rattle.steps.proofs.skip.Reads as skip-reads
+use Rattle.steps.proofs.skip_all.Reads as skip-all-reads
 use Rattle.steps.proofs.start_of.Reads as start-of-reads
 use Rattle.steps.proofs.take.Reads as take-reads
 use Rattle.steps.proofs.table.open.Reads as open-reads
@@ -104,7 +104,7 @@ abbrev parse-value-below : ℕ → In 4 parse-value-kinds.ps
 parse-value-below t = and 4 parse-value-kinds.ps (falls 4 parse-value-kinds.ps _<_ μ-parse-value t) parse-value.Pre
 
 abbrev parse-elements-calls : ℕ → parse-elements-lts.Claims
-parse-elements-calls t = (skip-reads.Asked, skip-reads.Learnt, take-reads.Asked, take-reads.Learnt, parse-value-below t, parse-value.Post)
+parse-elements-calls t = (skip-all-reads.Asked, skip-all-reads.Learnt, take-reads.Asked, take-reads.Learnt, parse-value-below t, parse-value.Post)
 
 abbrev parse-list-value-calls : ℕ → parse-list-value-lts.Claims
 parse-list-value-calls t = (open-reads.Asked, open-reads.Learnt, parse-elements-below t, parse-elements.Post, put-node-reads.Asked, put-node-reads.Learnt)
@@ -113,7 +113,7 @@ abbrev parse-map-value-calls : ℕ → parse-map-value-lts.Claims
 parse-map-value-calls t = (open-reads.Asked, open-reads.Learnt, parse-properties-below t, parse-properties.Post, put-node-reads.Asked, put-node-reads.Learnt)
 
 abbrev parse-properties-calls : ℕ → parse-properties-lts.Claims
-parse-properties-calls t = (skip-reads.Asked, skip-reads.Learnt, take-reads.Asked, take-reads.Learnt, parse-property-below t, parse-property.Post)
+parse-properties-calls t = (skip-all-reads.Asked, skip-all-reads.Learnt, take-reads.Asked, take-reads.Learnt, parse-property-below t, parse-property.Post)
 
 abbrev parse-property-calls : ℕ → parse-property-lts.Claims
 parse-property-calls t = (open-reads.Asked, open-reads.Learnt, parse-value-below t, parse-value.Post, expect-reads.Asked, expect-reads.Learnt, start-of-reads.Asked, start-of-reads.Learnt, put-node-reads.Asked, put-node-reads.Learnt)
@@ -137,29 +137,29 @@ module _ (t : ℕ) where
   parse-elements-loop-holds : parse-elements-lts.Need-loop-holds (parse-elements-calls t) (parse-elements-at t) parse-elements.Post parse-elements-Inv-loop parse-elements-μ-loop
   parse-elements-loop-holds c = (λ u. refl, refl, omega arith)
 
-  parse-elements-skip-requires : parse-elements-lts.Need-skip-requires (parse-elements-calls t) (parse-elements-at t) parse-elements.Post parse-elements-Inv-loop parse-elements-μ-loop
-  parse-elements-skip-requires c κs = c .before .before .before .pre .1
+  parse-elements-skip-all-requires : parse-elements-lts.Need-skip-all-requires (parse-elements-calls t) (parse-elements-at t) parse-elements.Post parse-elements-Inv-loop parse-elements-μ-loop
+  parse-elements-skip-all-requires c κs = c .before .before .before .pre .1
 
-  parse-elements-skip-requires-2 : parse-elements-lts.Need-skip-requires-2 (parse-elements-calls t) (parse-elements-at t) parse-elements.Post parse-elements-Inv-loop parse-elements-μ-loop
-  parse-elements-skip-requires-2 c κs = c .before .before .before .before .pre .1
+  parse-elements-skip-all-requires-2 : parse-elements-lts.Need-skip-all-requires-2 (parse-elements-calls t) (parse-elements-at t) parse-elements.Post parse-elements-Inv-loop parse-elements-μ-loop
+  parse-elements-skip-all-requires-2 c κs = c .before .before .before .before .pre .1
 
   parse-elements-take-requires : parse-elements-lts.Need-take-requires (parse-elements-calls t) (parse-elements-at t) parse-elements.Post parse-elements-Inv-loop parse-elements-μ-loop
   parse-elements-take-requires c κs = c .before .before .before .before .before .before .before .pre .1
 
   parse-elements-returns : parse-elements-lts.Need-returns (parse-elements-calls t) (parse-elements-at t) parse-elements.Post parse-elements-Inv-loop parse-elements-μ-loop
-  parse-elements-returns c = λ u. last _ _ _ _ _ (closes _ _ _ _ _ (elements-turn _ _ (value-falls _ _ _ _) _ _ _ _ _ _ (c .before .before .before .before .before .loop .inv .0 _) (c .before .before .before .before .skip .ensures) (c .before .before .before .skip2 .ensures)) (c .before .if1 .taken)) (c .take .ensures _ _)
+  parse-elements-returns c = λ u. last _ _ _ _ _ (closes _ _ _ _ _ (elements-turn _ _ (value-falls _ _ _ _) _ _ _ _ _ _ (c .before .before .before .before .before .loop .inv .0 _) (c .before .before .before .before .skip-all .ensures) (c .before .before .before .skip-all2 .ensures)) (c .before .if1 .taken)) (c .take .ensures _ _)
 
   parse-elements-parse-value-requires : parse-elements-lts.Need-parse-value-requires (parse-elements-calls t) (parse-elements-at t) parse-elements.Post parse-elements-Inv-loop parse-elements-μ-loop
-  parse-elements-parse-value-requires c κs = (omega (arith, c .before .before .before .before .before .before .before .before .pre .0, c .before .before .before .before .before .loop .inv .2, both-left _ _ _ _ (c .before .before .before .before .skip .ensures) (c .before .before .before .skip2 .ensures)), c .before .before .before .before .before .before .before .before .pre .1)
+  parse-elements-parse-value-requires c κs = (omega (arith, c .before .before .before .before .before .before .before .before .pre .0, c .before .before .before .before .before .loop .inv .2, both-left _ _ _ _ (c .before .before .before .before .skip-all .ensures) (c .before .before .before .skip-all2 .ensures)), c .before .before .before .before .before .before .before .before .pre .1)
 
   parse-elements-returns-2 : parse-elements-lts.Need-returns-2 (parse-elements-calls t) (parse-elements-at t) parse-elements.Post parse-elements-Inv-loop parse-elements-μ-loop
-  parse-elements-returns-2 c = λ u. off _ _ _ (stays _ _ _ _ _ (elements-turn _ _ (value-falls _ _ _ _) _ _ _ _ _ _ (c .before .before .before .before .before .before .before .before .before .before .loop .inv .0 _) (c .before .before .before .before .before .before .before .before .before .skip .ensures) (c .before .before .before .before .before .before .before .before .skip2 .ensures)) (c .before .before .before .before .before .before .if1 .left)) _ _ _ _ _ (c .before .before .before .before .parse-value .ensures _) (c .enum-told .given .1) _ _
+  parse-elements-returns-2 c = λ u. off _ _ _ (stays _ _ _ _ _ (elements-turn _ _ (value-falls _ _ _ _) _ _ _ _ _ _ (c .before .before .before .before .before .before .before .before .before .before .loop .inv .0 _) (c .before .before .before .before .before .before .before .before .before .skip-all .ensures) (c .before .before .before .before .before .before .before .before .skip-all2 .ensures)) (c .before .before .before .before .before .before .if1 .left)) _ _ _ _ _ (c .before .before .before .before .parse-value .ensures _) (c .enum-told .given .1) _ _
 
   parse-elements-loop-less : parse-elements-lts.Need-loop-less (parse-elements-calls t) (parse-elements-at t) parse-elements.Post parse-elements-Inv-loop parse-elements-μ-loop
-  parse-elements-loop-less c = omega (arith, both-left _ _ _ _ (c .before .before .before .before .before .before .before .before .before .before .skip .ensures) (c .before .before .before .before .before .before .before .before .before .skip2 .ensures), quiet-left _ _ (value-falls _ _ _ _) _ _ _ _ _ (c .before .before .before .before .before .parse-value .ensures) (c .before .read .given .1))
+  parse-elements-loop-less c = omega (arith, both-left _ _ _ _ (c .before .before .before .before .before .before .before .before .before .before .skip-all .ensures) (c .before .before .before .before .before .before .before .before .before .skip-all2 .ensures), quiet-left _ _ (value-falls _ _ _ _) _ _ _ _ _ (c .before .before .before .before .before .parse-value .ensures) (c .before .read .given .1))
 
   parse-elements-loop-again : parse-elements-lts.Need-loop-again (parse-elements-calls t) (parse-elements-at t) parse-elements.Post parse-elements-Inv-loop parse-elements-μ-loop
-  parse-elements-loop-again c = (λ u. on _ _ _ (stays _ _ _ _ _ (elements-turn _ _ (value-falls _ _ _ _) _ _ _ _ _ _ (c .before .before .before .before .before .before .before .before .before .before .before .loop .inv .0 _) (c .before .before .before .before .before .before .before .before .before .before .skip .ensures) (c .before .before .before .before .before .before .before .before .before .skip2 .ensures)) (c .before .before .before .before .before .before .before .if1 .left)) _ _ _ _ (c .before .before .before .before .before .parse-value .ensures _) (c .before .read .given .1), c .before .before .before .before .before .parse-value .kept .1 .1 .1 .1 .1 .1 .1 .0 ∙ c .before .before .before .before .before .before .before .before .before .before .before .loop .inv .1, omega (arith, c .before .before .before .before .before .before .before .before .before .before .before .loop .inv .2, both-left _ _ _ _ (c .before .before .before .before .before .before .before .before .before .before .skip .ensures) (c .before .before .before .before .before .before .before .before .before .skip2 .ensures), quiet-left _ _ (value-falls _ _ _ _) _ _ _ _ _ (c .before .before .before .before .before .parse-value .ensures) (c .before .read .given .1)))
+  parse-elements-loop-again c = (λ u. on _ _ _ (stays _ _ _ _ _ (elements-turn _ _ (value-falls _ _ _ _) _ _ _ _ _ _ (c .before .before .before .before .before .before .before .before .before .before .before .loop .inv .0 _) (c .before .before .before .before .before .before .before .before .before .before .skip-all .ensures) (c .before .before .before .before .before .before .before .before .before .skip-all2 .ensures)) (c .before .before .before .before .before .before .before .if1 .left)) _ _ _ _ (c .before .before .before .before .before .parse-value .ensures _) (c .before .read .given .1), c .before .before .before .before .before .parse-value .kept .1 .1 .1 .1 .1 .1 .1 .0 ∙ c .before .before .before .before .before .before .before .before .before .before .before .loop .inv .1, omega (arith, c .before .before .before .before .before .before .before .before .before .before .before .loop .inv .2, both-left _ _ _ _ (c .before .before .before .before .before .before .before .before .before .before .skip-all .ensures) (c .before .before .before .before .before .before .before .before .before .skip-all2 .ensures), quiet-left _ _ (value-falls _ _ _ _) _ _ _ _ _ (c .before .before .before .before .before .parse-value .ensures) (c .before .read .given .1)))
 
   parse-list-value-parse-elements-requires : parse-list-value-lts.Need-parse-elements-requires (parse-list-value-calls t) (parse-list-value-at t) parse-list-value.Post
   parse-list-value-parse-elements-requires c κs = (omega (arith, c .before .before .before .before .pre .0, opened-by (c .before .before .before .before .args .text .now) _ _ (c .before .«open» .ensures)), c .before .before .before .before .pre .1)
@@ -182,29 +182,29 @@ module _ (t : ℕ) where
   parse-properties-loop-holds : parse-properties-lts.Need-loop-holds (parse-properties-calls t) (parse-properties-at t) parse-properties.Post parse-properties-Inv-loop parse-properties-μ-loop
   parse-properties-loop-holds c = (λ u. refl, refl, omega arith)
 
-  parse-properties-skip-requires : parse-properties-lts.Need-skip-requires (parse-properties-calls t) (parse-properties-at t) parse-properties.Post parse-properties-Inv-loop parse-properties-μ-loop
-  parse-properties-skip-requires c κs = c .before .before .before .pre .1
+  parse-properties-skip-all-requires : parse-properties-lts.Need-skip-all-requires (parse-properties-calls t) (parse-properties-at t) parse-properties.Post parse-properties-Inv-loop parse-properties-μ-loop
+  parse-properties-skip-all-requires c κs = c .before .before .before .pre .1
 
-  parse-properties-skip-requires-2 : parse-properties-lts.Need-skip-requires-2 (parse-properties-calls t) (parse-properties-at t) parse-properties.Post parse-properties-Inv-loop parse-properties-μ-loop
-  parse-properties-skip-requires-2 c κs = c .before .before .before .before .pre .1
+  parse-properties-skip-all-requires-2 : parse-properties-lts.Need-skip-all-requires-2 (parse-properties-calls t) (parse-properties-at t) parse-properties.Post parse-properties-Inv-loop parse-properties-μ-loop
+  parse-properties-skip-all-requires-2 c κs = c .before .before .before .before .pre .1
 
   parse-properties-take-requires : parse-properties-lts.Need-take-requires (parse-properties-calls t) (parse-properties-at t) parse-properties.Post parse-properties-Inv-loop parse-properties-μ-loop
   parse-properties-take-requires c κs = c .before .before .before .before .before .before .before .pre .1
 
   parse-properties-returns : parse-properties-lts.Need-returns (parse-properties-calls t) (parse-properties-at t) parse-properties.Post parse-properties-Inv-loop parse-properties-μ-loop
-  parse-properties-returns c = λ u. last _ _ _ _ _ (closes _ _ _ _ _ (properties-turn _ _ (property-falls _ _ (λ q. value-falls _ _ _ q) _ _) _ _ _ _ _ _ (c .before .before .before .before .before .loop .inv .0 _) (c .before .before .before .before .skip .ensures) (c .before .before .before .skip2 .ensures)) (c .before .if1 .taken)) (c .take .ensures _ _)
+  parse-properties-returns c = λ u. last _ _ _ _ _ (closes _ _ _ _ _ (properties-turn _ _ (property-falls _ _ (λ q. value-falls _ _ _ q) _ _) _ _ _ _ _ _ (c .before .before .before .before .before .loop .inv .0 _) (c .before .before .before .before .skip-all .ensures) (c .before .before .before .skip-all2 .ensures)) (c .before .if1 .taken)) (c .take .ensures _ _)
 
   parse-properties-parse-property-requires : parse-properties-lts.Need-parse-property-requires (parse-properties-calls t) (parse-properties-at t) parse-properties.Post parse-properties-Inv-loop parse-properties-μ-loop
-  parse-properties-parse-property-requires c κs = (omega (arith, c .before .before .before .before .before .before .before .before .pre .0, c .before .before .before .before .before .loop .inv .2, both-left _ _ _ _ (c .before .before .before .before .skip .ensures) (c .before .before .before .skip2 .ensures)), c .before .before .before .before .before .before .before .before .pre .1)
+  parse-properties-parse-property-requires c κs = (omega (arith, c .before .before .before .before .before .before .before .before .pre .0, c .before .before .before .before .before .loop .inv .2, both-left _ _ _ _ (c .before .before .before .before .skip-all .ensures) (c .before .before .before .skip-all2 .ensures)), c .before .before .before .before .before .before .before .before .pre .1)
 
   parse-properties-returns-2 : parse-properties-lts.Need-returns-2 (parse-properties-calls t) (parse-properties-at t) parse-properties.Post parse-properties-Inv-loop parse-properties-μ-loop
-  parse-properties-returns-2 c = λ u. off _ _ _ (stays _ _ _ _ _ (properties-turn _ _ (property-falls _ _ (λ q. value-falls _ _ _ q) _ _) _ _ _ _ _ _ (c .before .before .before .before .before .before .before .before .before .before .loop .inv .0 _) (c .before .before .before .before .before .before .before .before .before .skip .ensures) (c .before .before .before .before .before .before .before .before .skip2 .ensures)) (c .before .before .before .before .before .before .if1 .left)) _ _ _ _ _ (c .before .before .before .before .parse-property .ensures _) (c .enum-told .given .1) _ _
+  parse-properties-returns-2 c = λ u. off _ _ _ (stays _ _ _ _ _ (properties-turn _ _ (property-falls _ _ (λ q. value-falls _ _ _ q) _ _) _ _ _ _ _ _ (c .before .before .before .before .before .before .before .before .before .before .loop .inv .0 _) (c .before .before .before .before .before .before .before .before .before .skip-all .ensures) (c .before .before .before .before .before .before .before .before .skip-all2 .ensures)) (c .before .before .before .before .before .before .if1 .left)) _ _ _ _ _ (c .before .before .before .before .parse-property .ensures _) (c .enum-told .given .1) _ _
 
   parse-properties-loop-less : parse-properties-lts.Need-loop-less (parse-properties-calls t) (parse-properties-at t) parse-properties.Post parse-properties-Inv-loop parse-properties-μ-loop
-  parse-properties-loop-less c = omega (arith, both-left _ _ _ _ (c .before .before .before .before .before .before .before .before .before .before .skip .ensures) (c .before .before .before .before .before .before .before .before .before .skip2 .ensures), quiet-left _ _ (property-falls _ _ (λ q. value-falls _ _ _ q) _ _) _ _ _ _ _ (c .before .before .before .before .before .parse-property .ensures) (c .before .read .given .1))
+  parse-properties-loop-less c = omega (arith, both-left _ _ _ _ (c .before .before .before .before .before .before .before .before .before .before .skip-all .ensures) (c .before .before .before .before .before .before .before .before .before .skip-all2 .ensures), quiet-left _ _ (property-falls _ _ (λ q. value-falls _ _ _ q) _ _) _ _ _ _ _ (c .before .before .before .before .before .parse-property .ensures) (c .before .read .given .1))
 
   parse-properties-loop-again : parse-properties-lts.Need-loop-again (parse-properties-calls t) (parse-properties-at t) parse-properties.Post parse-properties-Inv-loop parse-properties-μ-loop
-  parse-properties-loop-again c = (λ u. on _ _ _ (stays _ _ _ _ _ (properties-turn _ _ (property-falls _ _ (λ q. value-falls _ _ _ q) _ _) _ _ _ _ _ _ (c .before .before .before .before .before .before .before .before .before .before .before .loop .inv .0 _) (c .before .before .before .before .before .before .before .before .before .before .skip .ensures) (c .before .before .before .before .before .before .before .before .before .skip2 .ensures)) (c .before .before .before .before .before .before .before .if1 .left)) _ _ _ _ (c .before .before .before .before .before .parse-property .ensures _) (c .before .read .given .1), c .before .before .before .before .before .parse-property .kept .1 .1 .1 .1 .1 .1 .1 .0 ∙ c .before .before .before .before .before .before .before .before .before .before .before .loop .inv .1, omega (arith, c .before .before .before .before .before .before .before .before .before .before .before .loop .inv .2, both-left _ _ _ _ (c .before .before .before .before .before .before .before .before .before .before .skip .ensures) (c .before .before .before .before .before .before .before .before .before .skip2 .ensures), quiet-left _ _ (property-falls _ _ (λ q. value-falls _ _ _ q) _ _) _ _ _ _ _ (c .before .before .before .before .before .parse-property .ensures) (c .before .read .given .1)))
+  parse-properties-loop-again c = (λ u. on _ _ _ (stays _ _ _ _ _ (properties-turn _ _ (property-falls _ _ (λ q. value-falls _ _ _ q) _ _) _ _ _ _ _ _ (c .before .before .before .before .before .before .before .before .before .before .before .loop .inv .0 _) (c .before .before .before .before .before .before .before .before .before .before .skip-all .ensures) (c .before .before .before .before .before .before .before .before .before .skip-all2 .ensures)) (c .before .before .before .before .before .before .before .if1 .left)) _ _ _ _ (c .before .before .before .before .before .parse-property .ensures _) (c .before .read .given .1), c .before .before .before .before .before .parse-property .kept .1 .1 .1 .1 .1 .1 .1 .0 ∙ c .before .before .before .before .before .before .before .before .before .before .before .loop .inv .1, omega (arith, c .before .before .before .before .before .before .before .before .before .before .before .loop .inv .2, both-left _ _ _ _ (c .before .before .before .before .before .before .before .before .before .before .skip-all .ensures) (c .before .before .before .before .before .before .before .before .before .skip-all2 .ensures), quiet-left _ _ (property-falls _ _ (λ q. value-falls _ _ _ q) _ _) _ _ _ _ _ (c .before .before .before .before .before .parse-property .ensures) (c .before .read .given .1)))
 
   parse-property-parse-value-requires : parse-property-lts.Need-parse-value-requires (parse-property-calls t) (parse-property-at t) parse-property.Post
   parse-property-parse-value-requires c κs = (omega (arith, c .before .before .before .before .pre .0, opened-by (c .before .before .before .before .args .text .now) _ _ (c .before .«open» .ensures)), c .before .before .before .before .pre .1)
@@ -260,9 +260,9 @@ module _ (t : ℕ) where
 pub +parse-elements+parse-list-value+parse-map-value+parse-properties+parse-property+parse-value-spec : {M : Type 1} → statement M
 +parse-elements+parse-list-value+parse-map-value+parse-properties+parse-property+parse-value-spec =
     close μ-parse-elements μ-parse-list-value μ-parse-map-value μ-parse-properties μ-parse-property μ-parse-value
-    (λ t. parse-elements-lts.spec (parse-elements-calls t) (parse-elements-at t) parse-elements.Post parse-elements-Inv-loop parse-elements-μ-loop (parse-elements-loop-holds t) (parse-elements-skip-requires t) (parse-elements-skip-requires-2 t) (parse-elements-take-requires t) (λ c. search needs) (parse-elements-returns t) (parse-elements-parse-value-requires t) (λ c. search needs) (λ c. search needs) (λ c. search needs) (parse-elements-returns-2 t) (parse-elements-loop-less t) (parse-elements-loop-again t))
+    (λ t. parse-elements-lts.spec (parse-elements-calls t) (parse-elements-at t) parse-elements.Post parse-elements-Inv-loop parse-elements-μ-loop (parse-elements-loop-holds t) (parse-elements-skip-all-requires t) (parse-elements-skip-all-requires-2 t) (parse-elements-take-requires t) (λ c. search needs) (parse-elements-returns t) (parse-elements-parse-value-requires t) (λ c. search needs) (λ c. search needs) (λ c. search needs) (parse-elements-returns-2 t) (parse-elements-loop-less t) (parse-elements-loop-again t))
     (λ t. parse-list-value-lts.spec (parse-list-value-calls t) (parse-list-value-at t) parse-list-value.Post (λ c κs. search needs) (parse-list-value-parse-elements-requires t) (λ c. search needs) (λ c. search needs) (λ c. search needs) (parse-list-value-returns t) (λ c κs. search needs) (λ c. search needs) (parse-list-value-returns-2 t))
     (λ t. parse-map-value-lts.spec (parse-map-value-calls t) (parse-map-value-at t) parse-map-value.Post (λ c κs. search needs) (parse-map-value-parse-properties-requires t) (λ c. search needs) (λ c. search needs) (λ c. search needs) (parse-map-value-returns t) (λ c κs. search needs) (λ c. search needs) (parse-map-value-returns-2 t))
-    (λ t. parse-properties-lts.spec (parse-properties-calls t) (parse-properties-at t) parse-properties.Post parse-properties-Inv-loop parse-properties-μ-loop (parse-properties-loop-holds t) (parse-properties-skip-requires t) (parse-properties-skip-requires-2 t) (parse-properties-take-requires t) (λ c. search needs) (parse-properties-returns t) (parse-properties-parse-property-requires t) (λ c. search needs) (λ c. search needs) (λ c. search needs) (parse-properties-returns-2 t) (parse-properties-loop-less t) (parse-properties-loop-again t))
+    (λ t. parse-properties-lts.spec (parse-properties-calls t) (parse-properties-at t) parse-properties.Post parse-properties-Inv-loop parse-properties-μ-loop (parse-properties-loop-holds t) (parse-properties-skip-all-requires t) (parse-properties-skip-all-requires-2 t) (parse-properties-take-requires t) (λ c. search needs) (parse-properties-returns t) (parse-properties-parse-property-requires t) (λ c. search needs) (λ c. search needs) (λ c. search needs) (parse-properties-returns-2 t) (parse-properties-loop-less t) (parse-properties-loop-again t))
     (λ t. parse-property-lts.spec (parse-property-calls t) (parse-property-at t) parse-property.Post (λ c κs. search needs) (parse-property-parse-value-requires t) (λ c. search needs) (λ c. search needs) (λ c. search needs) (parse-property-returns t) (parse-property-expect-requires t) (λ c. search needs) (λ c. search needs) (λ c. search needs) (parse-property-returns-2 t) (parse-property-parse-value-requires-2 t) (λ c. search needs) (λ c. search needs) (λ c. search needs) (parse-property-returns-3 t) (λ c κs. search needs) (λ c κs. search needs) (parse-property-same-length-4 t) (parse-property-returns-4 t))
     (λ t. parse-value-lts.spec (parse-value-calls t) (parse-value-at t) parse-value.Post (parse-value-take-requires t) (λ c. search needs) (λ c. search needs) (parse-value-returns t) (λ c κs. search needs) (λ c κs. search needs) (λ c. search needs) (parse-value-returns-2 t) (λ c κs. search needs) (λ c κs. search needs) (parse-value-returns-3 t) (λ c κs. search needs) (parse-value-returns-4 t) (λ c. search needs) (parse-value-parse-list-value-requires t) (λ c. search needs) (parse-value-returns-5 t) (λ c. search needs) (parse-value-parse-map-value-requires t) (λ c. search needs) (parse-value-returns-6 t))
