@@ -2,6 +2,7 @@
 ghost use Rattle.steps.specs.Into.{Puts, Keeps, Lent, Reads, Quiet};
 ghost use Rattle.parse_definitions.specs.Into.{beginIn, ownRecordIn, includeIn, scopeIn, namespaceIn, typedNameIn, constIn, typedefIn, enumIn, structureIn, extendsIn, serviceHeadIn, serviceIn, definitionIn};
 use lexer::error;
+use parse_fields::Leaf;
 use parse_fields::annotations;
 use parse_fields::fields;
 use parse_members::enums;
@@ -9,17 +10,30 @@ use parse_members::functions;
 use parse_values::types;
 use parse_values::values;
 use parser::NESTING;
+use steps::state::Parent;
 use steps::state::Parsed;
 use steps::state::State;
-use steps::table;
+
+// The file that is included; the scope `*`.
+const INCLUDED: Leaf = Leaf {
+    token: token::kind::STRING_LITERAL,
+    number: error::MISSING_INCLUDE_IDENTIFIER,
+    kind: ast::kind::NAME,
+};
+
+const EVERY_SCOPE: Leaf = Leaf {
+    token: token::kind::STAR,
+    number: error::MISSING_NAMESPACE_SCOPE,
+    kind: ast::kind::NAME,
+};
 
 // The record's number and the state behind the keyword, its comments owned.
 fn begin(class: &[u8; 256], trie: &[u8; 512], text: &[u8], st: State, comments: &mut [u32]) -> State
     requires { ⌜ Lent (now class) (now trie) (now text) ⌝ }
     ensures { λ r. ⌜ Keeps (beginIn (now (text .entry))) st r (now (comments .entry)) (now (comments .exit)) ⌝ }
 {
-    let first = steps::own(table::open(st), st.next, comments);
-    steps::advance(class, trie, text, first)
+    let first = st.open().own(st.next, comments);
+    first.advance(class, trie, text)
 }
 
 // The definition's own record, from its keyword on.
@@ -28,7 +42,11 @@ fn close(rest: &mut [u32], st: State, state: State, kind: u32)
 {
     let loc = st.loc;
     let start = loc.start;
-    table::put_node(rest, state, st.next, kind, 0, start, st.next, 4294967295);
+    let whole = Parent {
+        base: st.next,
+        node: 4294967295,
+    };
+    state.put_node(rest, st.next, kind, 0, start, whole);
 }
 
 // parse_include, parse_cpp_include
@@ -45,19 +63,12 @@ fn parse_include(
     requires { ⌜ Lent (now class) (now trie) (now text) ⌝ }
     ensures { λ r. ⌜ Reads (includeIn (now (text .entry)) kind) st r (now (rest .entry)) (now (rest .exit)) (now (comments .entry)) (now (comments .exit)) ⌝ }
 {
+    let under = Parent {
+        base: st.next,
+        node: st.next,
+    };
     let begun = begin(class, trie, text, st, comments);
-    let name = parse_fields::parse_leaf(
-        class,
-        trie,
-        text,
-        begun,
-        token::kind::STRING_LITERAL,
-        error::MISSING_INCLUDE_IDENTIFIER,
-        ast::kind::NAME,
-        st.next,
-        st.next,
-        rest,
-    );
+    let name = parse_fields::parse_leaf(class, trie, text, begun, INCLUDED, under, rest);
     let Parsed::On(state) = name else {
         return name;
     };
@@ -71,26 +82,14 @@ fn parse_scope(
     trie: &[u8; 512],
     text: &[u8],
     st: State,
-    base: u32,
-    parent: u32,
+    parent: Parent,
     rest: &mut [u32],
 ) -> Parsed
     requires { ⌜ Lent (now class) (now trie) (now text) ⌝ }
-    ensures { λ r. ⌜ Quiet (scopeIn (now (text .entry)) base parent) st r (now (rest .entry)) (now (rest .exit)) ⌝ }
+    ensures { λ r. ⌜ Quiet (scopeIn (now (text .entry)) (parent .base) (parent .node)) st r (now (rest .entry)) (now (rest .exit)) ⌝ }
 {
     if st.kind == token::kind::STAR {
-        return parse_fields::parse_leaf(
-            class,
-            trie,
-            text,
-            st,
-            token::kind::STAR,
-            error::MISSING_NAMESPACE_SCOPE,
-            ast::kind::NAME,
-            base,
-            parent,
-            rest,
-        );
+        return parse_fields::parse_leaf(class, trie, text, st, EVERY_SCOPE, parent, rest);
     }
     parse_fields::parse_name(
         class,
@@ -98,7 +97,6 @@ fn parse_scope(
         text,
         st,
         error::MISSING_NAMESPACE_SCOPE,
-        base,
         parent,
         rest,
     )
@@ -117,8 +115,12 @@ fn parse_namespace(
     requires { ⌜ Lent (now class) (now trie) (now text) ⌝ }
     ensures { λ r. ⌜ Reads (namespaceIn (now (text .entry))) st r (now (rest .entry)) (now (rest .exit)) (now (comments .entry)) (now (comments .exit)) ⌝ }
 {
+    let under = Parent {
+        base: st.next,
+        node: st.next,
+    };
     let begun = begin(class, trie, text, st, comments);
-    let scope = parse_scope(class, trie, text, begun, st.next, st.next, rest);
+    let scope = parse_scope(class, trie, text, begun, under, rest);
     let Parsed::On(scoped) = scope else {
         return scope;
     };
@@ -128,8 +130,7 @@ fn parse_namespace(
         text,
         scoped,
         error::MISSING_NAMESPACE_IDENTIFIER,
-        st.next,
-        st.next,
+        under,
         rest,
     );
     let Parsed::On(state) = name else {
@@ -146,18 +147,17 @@ fn parse_typed_name(
     text: &[u8],
     st: State,
     number: u32,
-    base: u32,
-    parent: u32,
+    parent: Parent,
     rest: &mut [u32],
 ) -> Parsed
     requires { ⌜ Lent (now class) (now trie) (now text) ⌝ }
-    ensures { λ r. ⌜ Quiet (typedNameIn (now (text .entry)) number base parent) st r (now (rest .entry)) (now (rest .exit)) ⌝ }
+    ensures { λ r. ⌜ Quiet (typedNameIn (now (text .entry)) number (parent .base) (parent .node)) st r (now (rest .entry)) (now (rest .exit)) ⌝ }
 {
-    let read = types::parse_type(class, trie, text, st, NESTING, base, parent, rest);
+    let read = types::parse_type(class, trie, text, st, NESTING, parent, rest);
     let Parsed::On(typed) = read else {
         return read;
     };
-    parse_fields::parse_name(class, trie, text, typed, number, base, parent, rest)
+    parse_fields::parse_name(class, trie, text, typed, number, parent, rest)
 }
 
 // parse_const: separators and comments behind the value are taken, and lie outside its range.
@@ -173,6 +173,10 @@ fn parse_const(
     requires { ⌜ Lent (now class) (now trie) (now text) ⌝ }
     ensures { λ r. ⌜ Reads (constIn (now (text .entry))) st r (now (rest .entry)) (now (rest .exit)) (now (comments .entry)) (now (comments .exit)) ⌝ }
 {
+    let under = Parent {
+        base: st.next,
+        node: st.next,
+    };
     let begun = begin(class, trie, text, st, comments);
     let head = parse_typed_name(
         class,
@@ -180,30 +184,28 @@ fn parse_const(
         text,
         begun,
         error::MISSING_CONST_IDENTIFIER,
-        st.next,
-        st.next,
+        under,
         rest,
     );
     let Parsed::On(named) = head else {
         return head;
     };
-    let equals = steps::expect(
+    let equals = named.expect(
         class,
         trie,
         text,
-        named,
         token::kind::EQUALS,
         error::UNEXPECTED_TOKEN,
     );
     let Parsed::On(behind) = equals else {
         return equals;
     };
-    let value = values::parse_value(class, trie, text, behind, NESTING, st.next, st.next, rest);
+    let value = values::parse_value(class, trie, text, behind, NESTING, under, rest);
     let Parsed::On(state) = value else {
         return value;
     };
     close(rest, st, state, ast::kind::CONST);
-    Parsed::On(steps::skip_comments(class, trie, text, state, true, comments))
+    Parsed::On(state.skip_comments(class, trie, text, true, comments))
 }
 
 // parse_typedef
@@ -219,6 +221,10 @@ fn parse_typedef(
     requires { ⌜ Lent (now class) (now trie) (now text) ⌝ }
     ensures { λ r. ⌜ Reads (typedefIn (now (text .entry))) st r (now (rest .entry)) (now (rest .exit)) (now (comments .entry)) (now (comments .exit)) ⌝ }
 {
+    let under = Parent {
+        base: st.next,
+        node: st.next,
+    };
     let begun = begin(class, trie, text, st, comments);
     let head = parse_typed_name(
         class,
@@ -226,8 +232,7 @@ fn parse_typedef(
         text,
         begun,
         error::MISSING_TYPEDEF_IDENTIFIER,
-        st.next,
-        st.next,
+        under,
         rest,
     );
     let Parsed::On(state) = head else {
@@ -250,6 +255,10 @@ fn parse_enum(
     requires { ⌜ Lent (now class) (now trie) (now text) ⌝ }
     ensures { λ r. ⌜ Reads (enumIn (now (text .entry))) st r (now (rest .entry)) (now (rest .exit)) (now (comments .entry)) (now (comments .exit)) ⌝ }
 {
+    let under = Parent {
+        base: st.next,
+        node: st.next,
+    };
     let begun = begin(class, trie, text, st, comments);
     let name = parse_fields::parse_name(
         class,
@@ -257,27 +266,17 @@ fn parse_enum(
         text,
         begun,
         error::MISSING_ENUM_IDENTIFIER,
-        st.next,
-        st.next,
+        under,
         rest,
     );
     let Parsed::On(named) = name else {
         return name;
     };
-    let body = enums::parse_enum_members(
-        class,
-        trie,
-        text,
-        named,
-        st.next,
-        st.next,
-        rest,
-        comments,
-    );
+    let body = enums::parse_enum_members(class, trie, text, named, under, rest, comments);
     let Parsed::On(behind) = body else {
         return body;
     };
-    let read = annotations::parse_annotations(class, trie, text, behind, st.next, st.next, rest);
+    let read = annotations::parse_annotations(class, trie, text, behind, under, rest);
     let Parsed::On(state) = read else {
         return read;
     };
@@ -299,6 +298,10 @@ fn parse_structure(
     requires { ⌜ Lent (now class) (now trie) (now text) ⌝ }
     ensures { λ r. ⌜ Reads (structureIn (now (text .entry)) kind) st r (now (rest .entry)) (now (rest .exit)) (now (comments .entry)) (now (comments .exit)) ⌝ }
 {
+    let under = Parent {
+        base: st.next,
+        node: st.next,
+    };
     let begun = begin(class, trie, text, st, comments);
     let name = parse_fields::parse_name(
         class,
@@ -306,8 +309,7 @@ fn parse_structure(
         text,
         begun,
         error::MISSING_STRUCT_IDENTIFIER,
-        st.next,
-        st.next,
+        under,
         rest,
     );
     let Parsed::On(named) = name else {
@@ -318,18 +320,15 @@ fn parse_structure(
         trie,
         text,
         named,
-        token::kind::LEFT_BRACE,
-        token::kind::RIGHT_BRACE,
-        0,
-        st.next,
-        st.next,
+        fields::MEMBERS,
+        under,
         rest,
         comments,
     );
     let Parsed::On(behind) = body else {
         return body;
     };
-    let read = annotations::parse_annotations(class, trie, text, behind, st.next, st.next, rest);
+    let read = annotations::parse_annotations(class, trie, text, behind, under, rest);
     let Parsed::On(state) = read else {
         return read;
     };
@@ -344,24 +343,22 @@ fn parse_extends(
     trie: &[u8; 512],
     text: &[u8],
     st: State,
-    base: u32,
-    parent: u32,
+    parent: Parent,
     rest: &mut [u32],
 ) -> Parsed
     requires { ⌜ Lent (now class) (now trie) (now text) ⌝ }
-    ensures { λ r. ⌜ Quiet (extendsIn (now (text .entry)) base parent) st r (now (rest .entry)) (now (rest .exit)) ⌝ }
+    ensures { λ r. ⌜ Quiet (extendsIn (now (text .entry)) (parent .base) (parent .node)) st r (now (rest .entry)) (now (rest .exit)) ⌝ }
 {
     if st.kind != token::kind::EXTENDS {
         return Parsed::On(st);
     }
-    let state = steps::advance(class, trie, text, st);
+    let state = st.advance(class, trie, text);
     parse_fields::parse_name(
         class,
         trie,
         text,
         state,
         error::MISSING_SERVICE_EXTENDS,
-        base,
         parent,
         rest,
     )
@@ -373,12 +370,11 @@ fn parse_service_head(
     trie: &[u8; 512],
     text: &[u8],
     st: State,
-    base: u32,
-    parent: u32,
+    parent: Parent,
     rest: &mut [u32],
 ) -> Parsed
     requires { ⌜ Lent (now class) (now trie) (now text) ⌝ }
-    ensures { λ r. ⌜ Quiet (serviceHeadIn (now (text .entry)) base parent) st r (now (rest .entry)) (now (rest .exit)) ⌝ }
+    ensures { λ r. ⌜ Quiet (serviceHeadIn (now (text .entry)) (parent .base) (parent .node)) st r (now (rest .entry)) (now (rest .exit)) ⌝ }
 {
     let name = parse_fields::parse_name(
         class,
@@ -386,14 +382,13 @@ fn parse_service_head(
         text,
         st,
         error::MISSING_SERVICE_IDENTIFIER,
-        base,
         parent,
         rest,
     );
     let Parsed::On(named) = name else {
         return name;
     };
-    parse_extends(class, trie, text, named, base, parent, rest)
+    parse_extends(class, trie, text, named, parent, rest)
 }
 
 // parse_service
@@ -409,25 +404,20 @@ fn parse_service(
     requires { ⌜ Lent (now class) (now trie) (now text) ⌝ }
     ensures { λ r. ⌜ Reads (serviceIn (now (text .entry))) st r (now (rest .entry)) (now (rest .exit)) (now (comments .entry)) (now (comments .exit)) ⌝ }
 {
+    let under = Parent {
+        base: st.next,
+        node: st.next,
+    };
     let begun = begin(class, trie, text, st, comments);
-    let head = parse_service_head(class, trie, text, begun, st.next, st.next, rest);
+    let head = parse_service_head(class, trie, text, begun, under, rest);
     let Parsed::On(named) = head else {
         return head;
     };
-    let body = functions::parse_functions(
-        class,
-        trie,
-        text,
-        named,
-        st.next,
-        st.next,
-        rest,
-        comments,
-    );
+    let body = functions::parse_functions(class, trie, text, named, under, rest, comments);
     let Parsed::On(behind) = body else {
         return body;
     };
-    let read = annotations::parse_annotations(class, trie, text, behind, st.next, st.next, rest);
+    let read = annotations::parse_annotations(class, trie, text, behind, under, rest);
     let Parsed::On(state) = read else {
         return read;
     };
@@ -486,5 +476,5 @@ pub fn parse_definition(
     if st.kind == token::kind::SERVICE {
         return parse_service(class, trie, text, st, rest, comments);
     }
-    steps::refuse(st, error::UNEXPECTED_TOKEN)
+    st.refuse(error::UNEXPECTED_TOKEN)
 }

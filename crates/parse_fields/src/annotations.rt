@@ -2,10 +2,18 @@
 ghost use mathlib.Core.Path.{_≡_};
 ghost use Rattle.steps.specs.Into.{Lent, Quiet};
 ghost use Rattle.parse_fields.specs.Into.{annotationIn, annotationListIn, annotationsIn};
+use crate::Leaf;
 use lexer::error;
+use steps::state::Parent;
 use steps::state::Parsed;
 use steps::state::State;
-use steps::table;
+
+// What an annotation says.
+const VALUE: Leaf = Leaf {
+    token: token::kind::STRING_LITERAL,
+    number: error::UNEXPECTED_TOKEN,
+    kind: ast::kind::STRING,
+};
 
 // A name, `=`, a string, and at most one separator.
 // Annotation ::= name '=' string Separator?
@@ -14,67 +22,48 @@ fn parse_annotation(
     trie: &[u8; 512],
     text: &[u8],
     st: State,
-    base: u32,
-    parent: u32,
+    parent: Parent,
     rest: &mut [u32],
 ) -> Parsed
     requires { ⌜ Lent (now class) (now trie) (now text) ⌝ }
-    ensures { λ r. ⌜ Quiet (annotationIn (now (text .entry)) base parent) st r (now (rest .entry)) (now (rest .exit)) ⌝ }
+    ensures { λ r. ⌜ Quiet (annotationIn (now (text .entry)) (parent .base) (parent .node)) st r (now (rest .entry)) (now (rest .exit)) ⌝ }
 {
-    let opened = table::open(st);
+    let under = Parent {
+        base: parent.base,
+        node: st.next,
+    };
+    let opened = st.open();
     let name = crate::parse_name(
         class,
         trie,
         text,
         opened,
         error::UNEXPECTED_TOKEN,
-        base,
-        st.next,
+        under,
         rest,
     );
     let Parsed::On(named) = name else {
         return name;
     };
-    let equals = steps::expect(
+    let equals = named.expect(
         class,
         trie,
         text,
-        named,
         token::kind::EQUALS,
         error::UNEXPECTED_TOKEN,
     );
     let Parsed::On(behind) = equals else {
         return equals;
     };
-    let value = crate::parse_leaf(
-        class,
-        trie,
-        text,
-        behind,
-        token::kind::STRING_LITERAL,
-        error::UNEXPECTED_TOKEN,
-        ast::kind::STRING,
-        base,
-        st.next,
-        rest,
-    );
+    let value = crate::parse_leaf(class, trie, text, behind, VALUE, under, rest);
     let Parsed::On(state) = value else {
         return value;
     };
     let loc = st.loc;
     let start = loc.start;
-    table::put_node(
-        rest,
-        state,
-        st.next,
-        ast::kind::ANNOTATION,
-        0,
-        start,
-        base,
-        parent,
-    );
+    state.put_node(rest, st.next, ast::kind::ANNOTATION, 0, start, parent);
     if steps::is_separator(state.kind) {
-        return Parsed::On(steps::advance(class, trie, text, state));
+        return Parsed::On(state.advance(class, trie, text));
     }
     Parsed::On(state)
 }
@@ -85,20 +74,19 @@ fn parse_annotation_list(
     trie: &[u8; 512],
     text: &[u8],
     st: State,
-    base: u32,
-    parent: u32,
+    parent: Parent,
     rest: &mut [u32],
 ) -> Parsed
     requires { ⌜ Lent (now class) (now trie) (now text) ⌝ }
-    ensures { λ r. ⌜ Quiet (annotationListIn (now (text .entry)) base parent) st r (now (rest .entry)) (now (rest .exit)) ⌝ }
+    ensures { λ r. ⌜ Quiet (annotationListIn (now (text .entry)) (parent .base) (parent .node)) st r (now (rest .entry)) (now (rest .exit)) ⌝ }
 {
     let mut state = st;
     loop {
-        let found = steps::skip(class, trie, text, state, false);
+        let found = state.skip(class, trie, text, false);
         if found.kind == token::kind::RIGHT_PAREN {
-            return steps::take(class, trie, text, found);
+            return found.take(class, trie, text);
         }
-        let read = parse_annotation(class, trie, text, found, base, parent, rest);
+        let read = parse_annotation(class, trie, text, found, parent, rest);
         let Parsed::On(behind) = read else {
             return read;
         };
@@ -112,15 +100,14 @@ pub fn parse_annotations(
     trie: &[u8; 512],
     text: &[u8],
     st: State,
-    base: u32,
-    parent: u32,
+    parent: Parent,
     rest: &mut [u32],
 ) -> Parsed
     requires { ⌜ Lent (now class) (now trie) (now text) ⌝ }
-    ensures { λ r. ⌜ Quiet (annotationsIn (now (text .entry)) base parent) st r (now (rest .entry)) (now (rest .exit)) ⌝ }
+    ensures { λ r. ⌜ Quiet (annotationsIn (now (text .entry)) (parent .base) (parent .node)) st r (now (rest .entry)) (now (rest .exit)) ⌝ }
 {
     if st.kind == token::kind::LEFT_PAREN {
-        return parse_some_annotations(class, trie, text, st, base, parent, rest);
+        return parse_some_annotations(class, trie, text, st, parent, rest);
     }
     Parsed::On(st)
 }
@@ -132,30 +119,24 @@ fn parse_some_annotations(
     trie: &[u8; 512],
     text: &[u8],
     st: State,
-    base: u32,
-    parent: u32,
+    parent: Parent,
     rest: &mut [u32],
 ) -> Parsed
     requires { ⌜ Lent (now class) (now trie) (now text) × (st .kind ≡ 40) ⌝ }
-    ensures { λ r. ⌜ Quiet (annotationsIn (now (text .entry)) base parent) st r (now (rest .entry)) (now (rest .exit)) ⌝ }
+    ensures { λ r. ⌜ Quiet (annotationsIn (now (text .entry)) (parent .base) (parent .node)) st r (now (rest .entry)) (now (rest .exit)) ⌝ }
 {
-    let opened = table::open(st);
-    let inside = steps::advance(class, trie, text, opened);
-    let read = parse_annotation_list(class, trie, text, inside, base, st.next, rest);
+    let under = Parent {
+        base: parent.base,
+        node: st.next,
+    };
+    let opened = st.open();
+    let inside = opened.advance(class, trie, text);
+    let read = parse_annotation_list(class, trie, text, inside, under, rest);
     let Parsed::On(state) = read else {
         return read;
     };
     let last = st.last;
     let start = last.start;
-    table::put_node(
-        rest,
-        state,
-        st.next,
-        ast::kind::ANNOTATIONS,
-        0,
-        start,
-        base,
-        parent,
-    );
+    state.put_node(rest, st.next, ast::kind::ANNOTATIONS, 0, start, parent);
     Parsed::On(state)
 }

@@ -9,6 +9,7 @@ use parse_values::types;
 use parse_values::values;
 use parser::NESTING;
 use steps::id;
+use steps::state::Parent;
 use steps::state::Parsed;
 use steps::state::State;
 use steps::table;
@@ -20,14 +21,13 @@ fn parse_field_id(
     trie: &[u8; 512],
     text: &[u8],
     st: State,
-    base: u32,
-    parent: u32,
+    parent: Parent,
     rest: &mut [u32],
 ) -> Parsed
     requires { ⌜ Lent (now class) (now trie) (now text) ⌝ }
-    ensures { λ r. ⌜ Quiet (fieldIdIn (now (text .entry)) base parent) st r (now (rest .entry)) (now (rest .exit)) ⌝ }
+    ensures { λ r. ⌜ Quiet (fieldIdIn (now (text .entry)) (parent .base) (parent .node)) st r (now (rest .entry)) (now (rest .exit)) ⌝ }
 {
-    let taken = steps::take(class, trie, text, st);
+    let taken = st.take(class, trie, text);
     let Parsed::On(state) = taken else {
         return taken;
     };
@@ -35,14 +35,13 @@ fn parse_field_id(
         return Parsed::On(state);
     }
     if !id::is_id_at(text, state.last) {
-        return steps::refuse(st, error::INVALID_FIELD_ID);
+        return st.refuse(error::INVALID_FIELD_ID);
     }
-    let numbered = table::put_leaf(rest, state, ast::kind::FIELD_ID, base, parent);
-    steps::expect(
+    let numbered = state.put_leaf(rest, ast::kind::FIELD_ID, parent);
+    numbered.expect(
         class,
         trie,
         text,
-        numbered,
         token::kind::COLON,
         error::UNEXPECTED_TOKEN,
     )
@@ -71,7 +70,7 @@ fn skip_required(class: &[u8; 256], trie: &[u8; 512], text: &[u8], st: State) ->
     if required_flag(st.kind) == 0 {
         return st;
     }
-    steps::advance(class, trie, text, st)
+    st.advance(class, trie, text)
 }
 
 // parse_field_name: the kinds that may name a field.
@@ -114,18 +113,17 @@ fn parse_field_name(
     trie: &[u8; 512],
     text: &[u8],
     st: State,
-    base: u32,
-    parent: u32,
+    parent: Parent,
     rest: &mut [u32],
 ) -> Parsed
     requires { ⌜ Lent (now class) (now trie) (now text) ⌝ }
-    ensures { λ r. ⌜ Quiet (fieldNameIn (now (text .entry)) base parent) st r (now (rest .entry)) (now (rest .exit)) ⌝ }
+    ensures { λ r. ⌜ Quiet (fieldNameIn (now (text .entry)) (parent .base) (parent .node)) st r (now (rest .entry)) (now (rest .exit)) ⌝ }
 {
     if !is_field_name(st.kind) {
-        return steps::refuse(st, error::INVALID_FIELD_NAME);
+        return st.refuse(error::INVALID_FIELD_NAME);
     }
-    let state = steps::advance(class, trie, text, st);
-    Parsed::On(table::put_leaf(rest, state, ast::kind::NAME, base, parent))
+    let state = st.advance(class, trie, text);
+    Parsed::On(state.put_leaf(rest, ast::kind::NAME, parent))
 }
 
 // The default value, if there is one.
@@ -135,18 +133,17 @@ fn parse_default(
     trie: &[u8; 512],
     text: &[u8],
     st: State,
-    base: u32,
-    parent: u32,
+    parent: Parent,
     rest: &mut [u32],
 ) -> Parsed
     requires { ⌜ Lent (now class) (now trie) (now text) ⌝ }
-    ensures { λ r. ⌜ Quiet (defaultIn (now (text .entry)) base parent) st r (now (rest .entry)) (now (rest .exit)) ⌝ }
+    ensures { λ r. ⌜ Quiet (defaultIn (now (text .entry)) (parent .base) (parent .node)) st r (now (rest .entry)) (now (rest .exit)) ⌝ }
 {
     if st.kind != token::kind::EQUALS {
         return Parsed::On(st);
     }
-    let state = steps::advance(class, trie, text, st);
-    values::parse_value(class, trie, text, state, NESTING, base, parent, rest)
+    let state = st.advance(class, trie, text);
+    values::parse_value(class, trie, text, state, NESTING, parent, rest)
 }
 
 // The type and the name of a field, behind its id.
@@ -155,19 +152,18 @@ fn parse_field_head(
     trie: &[u8; 512],
     text: &[u8],
     st: State,
-    base: u32,
-    parent: u32,
+    parent: Parent,
     rest: &mut [u32],
 ) -> Parsed
     requires { ⌜ Lent (now class) (now trie) (now text) ⌝ }
-    ensures { λ r. ⌜ Quiet (fieldHeadIn (now (text .entry)) base parent) st r (now (rest .entry)) (now (rest .exit)) ⌝ }
+    ensures { λ r. ⌜ Quiet (fieldHeadIn (now (text .entry)) (parent .base) (parent .node)) st r (now (rest .entry)) (now (rest .exit)) ⌝ }
 {
     let begun = skip_required(class, trie, text, st);
-    let read = types::parse_type(class, trie, text, begun, NESTING, base, parent, rest);
+    let read = types::parse_type(class, trie, text, begun, NESTING, parent, rest);
     let Parsed::On(typed) = read else {
         return read;
     };
-    parse_field_name(class, trie, text, typed, base, parent, rest)
+    parse_field_name(class, trie, text, typed, parent, rest)
 }
 
 // The default value and the annotations of a field.
@@ -176,18 +172,17 @@ fn parse_field_tail(
     trie: &[u8; 512],
     text: &[u8],
     st: State,
-    base: u32,
-    parent: u32,
+    parent: Parent,
     rest: &mut [u32],
 ) -> Parsed
     requires { ⌜ Lent (now class) (now trie) (now text) ⌝ }
-    ensures { λ r. ⌜ Quiet (fieldTailIn (now (text .entry)) base parent) st r (now (rest .entry)) (now (rest .exit)) ⌝ }
+    ensures { λ r. ⌜ Quiet (fieldTailIn (now (text .entry)) (parent .base) (parent .node)) st r (now (rest .entry)) (now (rest .exit)) ⌝ }
 {
-    let read = parse_default(class, trie, text, st, base, parent, rest);
+    let read = parse_default(class, trie, text, st, parent, rest);
     let Parsed::On(state) = read else {
         return read;
     };
-    annotations::parse_annotations(class, trie, text, state, base, parent, rest)
+    annotations::parse_annotations(class, trie, text, state, parent, rest)
 }
 
 // parse_field; `flag` is THROWN for a thrown field, else 0.
@@ -198,72 +193,89 @@ fn parse_field(
     text: &[u8],
     st: State,
     flag: u32,
-    base: u32,
-    parent: u32,
+    parent: Parent,
     rest: &mut [u32],
     comments: &mut [u32],
 ) -> Parsed
     requires { ⌜ Lent (now class) (now trie) (now text) ⌝ }
-    ensures { λ r. ⌜ Reads (fieldIn (now (text .entry)) flag base parent) st r (now (rest .entry)) (now (rest .exit)) (now (comments .entry)) (now (comments .exit)) ⌝ }
+    ensures { λ r. ⌜ Reads (fieldIn (now (text .entry)) flag (parent .base) (parent .node)) st r (now (rest .entry)) (now (rest .exit)) (now (comments .entry)) (now (comments .exit)) ⌝ }
 {
-    let first = steps::own(table::open(st), st.next, comments);
-    let id = parse_field_id(class, trie, text, first, base, st.next, rest);
+    let under = Parent {
+        base: parent.base,
+        node: st.next,
+    };
+    let first = st.open().own(st.next, comments);
+    let id = parse_field_id(class, trie, text, first, under, rest);
     let Parsed::On(numbered) = id else {
         return id;
     };
-    let head = parse_field_head(class, trie, text, numbered, base, st.next, rest);
+    let head = parse_field_head(class, trie, text, numbered, under, rest);
     let Parsed::On(named) = head else {
         return head;
     };
-    let tail = parse_field_tail(class, trie, text, named, base, st.next, rest);
+    let tail = parse_field_tail(class, trie, text, named, under, rest);
     let Parsed::On(state) = tail else {
         return tail;
     };
-    let start = steps::start_of(st);
+    let start = st.start();
     let flags = table::sum(required_flag(numbered.kind), flag);
-    table::put_node(
-        rest,
-        state,
-        st.next,
-        ast::kind::FIELD,
-        flags,
-        start,
-        base,
-        parent,
-    );
+    state.put_node(rest, st.next, ast::kind::FIELD, flags, start, parent);
     Parsed::On(state)
 }
 
-// parse_members and parse_parameters over fields: from `opener` to `closer`.
+// A list of fields: the kinds of its brackets, and the flag of each field.
+pub struct FieldList {
+    pub opener: u32,
+    pub closer: u32,
+    pub flag: u32,
+}
+
+// The fields of a structure; the parameters of a function; what it throws.
+pub const MEMBERS: FieldList = FieldList {
+    opener: token::kind::LEFT_BRACE,
+    closer: token::kind::RIGHT_BRACE,
+    flag: 0,
+};
+
+pub const PARAMETERS: FieldList = FieldList {
+    opener: token::kind::LEFT_PAREN,
+    closer: token::kind::RIGHT_PAREN,
+    flag: 0,
+};
+
+pub const THROWN: FieldList = FieldList {
+    opener: token::kind::LEFT_PAREN,
+    closer: token::kind::RIGHT_PAREN,
+    flag: flag::THROWN,
+};
+
+// parse_members and parse_parameters over fields.
 // Fields ::= open (Separator* Comment* Field)* Separator* Comment* close
 pub fn parse_fields(
     class: &[u8; 256],
     trie: &[u8; 512],
     text: &[u8],
     st: State,
-    opener: u32,
-    closer: u32,
-    flag: u32,
-    base: u32,
-    parent: u32,
+    list: FieldList,
+    parent: Parent,
     rest: &mut [u32],
     comments: &mut [u32],
 ) -> Parsed
     requires { ⌜ Lent (now class) (now trie) (now text) ⌝ }
-    ensures { λ r. ⌜ Reads (fieldsIn (now (text .entry)) opener closer flag base parent) st r (now (rest .entry)) (now (rest .exit)) (now (comments .entry)) (now (comments .exit)) ⌝ }
+    ensures { λ r. ⌜ Reads (fieldsIn (now (text .entry)) (list .opener) (list .closer) (list .flag) (parent .base) (parent .node)) st r (now (rest .entry)) (now (rest .exit)) (now (comments .entry)) (now (comments .exit)) ⌝ }
 {
-    let opened = steps::expect(class, trie, text, st, opener, error::UNEXPECTED_TOKEN);
+    let opened = st.expect(class, trie, text, list.opener, error::UNEXPECTED_TOKEN);
     let Parsed::On(inside) = opened else {
         return opened;
     };
     let mut state = inside;
     loop {
-        let over = steps::skip(class, trie, text, state, true);
-        let found = steps::skip_comments(class, trie, text, over, false, comments);
-        if found.kind == closer {
-            return steps::take(class, trie, text, found);
+        let over = state.skip(class, trie, text, true);
+        let found = over.skip_comments(class, trie, text, false, comments);
+        if found.kind == list.closer {
+            return found.take(class, trie, text);
         }
-        let read = parse_field(class, trie, text, found, flag, base, parent, rest, comments);
+        let read = parse_field(class, trie, text, found, list.flag, parent, rest, comments);
         let Parsed::On(behind) = read else {
             return read;
         };

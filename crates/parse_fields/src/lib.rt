@@ -4,9 +4,16 @@ pub mod fields;
 
 ghost use Rattle.steps.specs.Into.{Lent, Quiet};
 ghost use Rattle.parse_fields.specs.Into.{tokenIn, nameIn};
+use steps::state::Parent;
 use steps::state::Parsed;
 use steps::state::State;
-use steps::table;
+
+// A token that is read as a node: its kind, the refusal of any other, the node's kind.
+pub struct Leaf {
+    pub token: u32,
+    pub number: u32,
+    pub kind: u32,
+}
 
 // A token of one kind, as a node.
 pub fn parse_leaf(
@@ -14,21 +21,18 @@ pub fn parse_leaf(
     trie: &[u8; 512],
     text: &[u8],
     st: State,
-    token: u32,
-    number: u32,
-    kind: u32,
-    base: u32,
-    parent: u32,
+    leaf: Leaf,
+    parent: Parent,
     rest: &mut [u32],
 ) -> Parsed
     requires { ⌜ Lent (now class) (now trie) (now text) ⌝ }
-    ensures { λ r. ⌜ Quiet (tokenIn (now (text .entry)) token number kind base parent) st r (now (rest .entry)) (now (rest .exit)) ⌝ }
+    ensures { λ r. ⌜ Quiet (tokenIn (now (text .entry)) (leaf .token) (leaf .number) (leaf .kind) (parent .base) (parent .node)) st r (now (rest .entry)) (now (rest .exit)) ⌝ }
 {
-    let taken = steps::expect(class, trie, text, st, token, number);
+    let taken = st.expect(class, trie, text, leaf.token, leaf.number);
     let Parsed::On(state) = taken else {
         return taken;
     };
-    Parsed::On(table::put_leaf(rest, state, kind, base, parent))
+    Parsed::On(state.put_leaf(rest, leaf.kind, parent))
 }
 
 // An identifier, as a name.
@@ -38,22 +42,22 @@ pub fn parse_name(
     text: &[u8],
     st: State,
     number: u32,
-    base: u32,
-    parent: u32,
+    parent: Parent,
     rest: &mut [u32],
 ) -> Parsed
     requires { ⌜ Lent (now class) (now trie) (now text) ⌝ }
-    ensures { λ r. ⌜ Quiet (nameIn (now (text .entry)) number base parent) st r (now (rest .entry)) (now (rest .exit)) ⌝ }
+    ensures { λ r. ⌜ Quiet (nameIn (now (text .entry)) number (parent .base) (parent .node)) st r (now (rest .entry)) (now (rest .exit)) ⌝ }
 {
     parse_leaf(
         class,
         trie,
         text,
         st,
-        token::kind::IDENTIFIER,
-        number,
-        ast::kind::NAME,
-        base,
+        Leaf {
+            token: token::kind::IDENTIFIER,
+            number,
+            kind: ast::kind::NAME,
+        },
         parent,
         rest,
     )

@@ -51,6 +51,10 @@ initializerIn text b p st t u =
     cond (eqb (st₁ .kind) 31) (tokenIn text 31 6 27 b p st₁ t u) (tokenIn text 32 6 24 b p st₁ t u))
     (done st t u)
 
+-- more than its name belongs to a member that this kind follows: an initializer or annotations
+unfoldable pub hasTail : ℕ → Bool
+hasTail k = eqb k 45 || eqb k 40
+
 unfoldable pub memberIn : List ℕ → ℕ → ℕ → M
 memberIn text b p st t u =
     after (ownIn (st .next) (opened st) t u)

@@ -1,28 +1,41 @@
 // Enum members.
 ghost use mathlib.Core.Path.{_≡_};
 ghost use Rattle.steps.specs.Into.{Lent, Reads, Quiet};
-ghost use Rattle.parse_members.specs.Into.{initializerIn, memberIn, enumMembersIn};
+ghost use Rattle.parse_members.specs.Into.{hasTail, initializerIn, memberIn, enumMembersIn};
 use lexer::error;
+use parse_fields::Leaf;
 use parse_fields::annotations;
+use steps::state::Parent;
 use steps::state::Parsed;
 use steps::state::State;
-use steps::table;
 
-// The number of a member, if it is written. The usual case, none, is apart, so that it copies no state.
+// The two numbers that a member may have.
+const HEX: Leaf = Leaf {
+    token: token::kind::HEX_LITERAL,
+    number: error::INVALID_VALUE_DECLARATION,
+    kind: ast::kind::HEX,
+};
+
+const INTEGER: Leaf = Leaf {
+    token: token::kind::INTEGER_LITERAL,
+    number: error::INVALID_VALUE_DECLARATION,
+    kind: ast::kind::INTEGER,
+};
+
+// The number of a member, if it is written.
 fn parse_initializer(
     class: &[u8; 256],
     trie: &[u8; 512],
     text: &[u8],
     st: State,
-    base: u32,
-    parent: u32,
+    parent: Parent,
     rest: &mut [u32],
 ) -> Parsed
     requires { ⌜ Lent (now class) (now trie) (now text) ⌝ }
-    ensures { λ r. ⌜ Quiet (initializerIn (now (text .entry)) base parent) st r (now (rest .entry)) (now (rest .exit)) ⌝ }
+    ensures { λ r. ⌜ Quiet (initializerIn (now (text .entry)) (parent .base) (parent .node)) st r (now (rest .entry)) (now (rest .exit)) ⌝ }
 {
     if st.kind == token::kind::EQUALS {
-        return parse_number(class, trie, text, st, base, parent, rest);
+        return parse_number(class, trie, text, st, parent, rest);
     }
     Parsed::On(st)
 }
@@ -34,91 +47,75 @@ fn parse_number(
     trie: &[u8; 512],
     text: &[u8],
     st: State,
-    base: u32,
-    parent: u32,
+    parent: Parent,
     rest: &mut [u32],
 ) -> Parsed
     requires { ⌜ Lent (now class) (now trie) (now text) × (st .kind ≡ 45) ⌝ }
-    ensures { λ r. ⌜ Quiet (initializerIn (now (text .entry)) base parent) st r (now (rest .entry)) (now (rest .exit)) ⌝ }
+    ensures { λ r. ⌜ Quiet (initializerIn (now (text .entry)) (parent .base) (parent .node)) st r (now (rest .entry)) (now (rest .exit)) ⌝ }
 {
-    let state = steps::advance(class, trie, text, st);
+    let state = st.advance(class, trie, text);
     if state.kind == token::kind::HEX_LITERAL {
-        return parse_fields::parse_leaf(
-            class,
-            trie,
-            text,
-            state,
-            token::kind::HEX_LITERAL,
-            error::INVALID_VALUE_DECLARATION,
-            ast::kind::HEX,
-            base,
-            parent,
-            rest,
-        );
+        return parse_fields::parse_leaf(class, trie, text, state, HEX, parent, rest);
     }
-    parse_fields::parse_leaf(
-        class,
-        trie,
-        text,
-        state,
-        token::kind::INTEGER_LITERAL,
-        error::INVALID_VALUE_DECLARATION,
-        ast::kind::INTEGER,
-        base,
-        parent,
-        rest,
-    )
+    parse_fields::parse_leaf(class, trie, text, state, INTEGER, parent, rest)
 }
 
-// parse_enum_member
+// Whether more than its name belongs to a member that this kind follows.
+fn has_tail(kind: u32) -> bool
+    ensures { λ r. ⌜ r ≡ hasTail kind ⌝ }
+{
+    if kind == token::kind::EQUALS {
+        return true;
+    }
+    kind == token::kind::LEFT_PAREN
+}
+
+// parse_enum_member. The usual case, a name alone, is apart, so that it copies no state.
 // EnumMember ::= name Initializer? Annotations?
 fn parse_enum_member(
     class: &[u8; 256],
     trie: &[u8; 512],
     text: &[u8],
     st: State,
-    base: u32,
-    parent: u32,
+    parent: Parent,
     rest: &mut [u32],
     comments: &mut [u32],
 ) -> Parsed
     requires { ⌜ Lent (now class) (now trie) (now text) ⌝ }
-    ensures { λ r. ⌜ Reads (memberIn (now (text .entry)) base parent) st r (now (rest .entry)) (now (rest .exit)) (now (comments .entry)) (now (comments .exit)) ⌝ }
+    ensures { λ r. ⌜ Reads (memberIn (now (text .entry)) (parent .base) (parent .node)) st r (now (rest .entry)) (now (rest .exit)) (now (comments .entry)) (now (comments .exit)) ⌝ }
 {
-    let first = steps::own(table::open(st), st.next, comments);
+    let under = Parent {
+        base: parent.base,
+        node: st.next,
+    };
+    let first = st.open().own(st.next, comments);
     let name = parse_fields::parse_name(
         class,
         trie,
         text,
         first,
         error::INVALID_ENUM_MEMBER_NAME,
-        base,
-        st.next,
+        under,
         rest,
     );
     let Parsed::On(named) = name else {
         return name;
     };
-    let value = parse_initializer(class, trie, text, named, base, st.next, rest);
+    let last = named.last;
+    let start = last.start;
+    if !has_tail(named.kind) {
+        named.put_node(rest, st.next, ast::kind::ENUM_MEMBER, 0, start, parent);
+        return Parsed::On(named);
+    }
+    let value = parse_initializer(class, trie, text, named, under, rest);
     let Parsed::On(behind) = value else {
         return value;
     };
-    let read = annotations::parse_annotations(class, trie, text, behind, base, st.next, rest);
+    let read = annotations::parse_annotations(class, trie, text, behind, under, rest);
     let Parsed::On(state) = read else {
         return read;
     };
-    let own = named.last;
-    let start = own.start;
-    table::put_node(
-        rest,
-        state,
-        st.next,
-        ast::kind::ENUM_MEMBER,
-        0,
-        start,
-        base,
-        parent,
-    );
+    state.put_node(rest, st.next, ast::kind::ENUM_MEMBER, 0, start, parent);
     Parsed::On(state)
 }
 
@@ -129,19 +126,17 @@ pub fn parse_enum_members(
     trie: &[u8; 512],
     text: &[u8],
     st: State,
-    base: u32,
-    parent: u32,
+    parent: Parent,
     rest: &mut [u32],
     comments: &mut [u32],
 ) -> Parsed
     requires { ⌜ Lent (now class) (now trie) (now text) ⌝ }
-    ensures { λ r. ⌜ Reads (enumMembersIn (now (text .entry)) base parent) st r (now (rest .entry)) (now (rest .exit)) (now (comments .entry)) (now (comments .exit)) ⌝ }
+    ensures { λ r. ⌜ Reads (enumMembersIn (now (text .entry)) (parent .base) (parent .node)) st r (now (rest .entry)) (now (rest .exit)) (now (comments .entry)) (now (comments .exit)) ⌝ }
 {
-    let opened = steps::expect(
+    let opened = st.expect(
         class,
         trie,
         text,
-        st,
         token::kind::LEFT_BRACE,
         error::UNEXPECTED_TOKEN,
     );
@@ -150,12 +145,12 @@ pub fn parse_enum_members(
     };
     let mut state = inside;
     loop {
-        let over = steps::skip(class, trie, text, state, true);
-        let found = steps::skip_comments(class, trie, text, over, false, comments);
+        let over = state.skip(class, trie, text, true);
+        let found = over.skip_comments(class, trie, text, false, comments);
         if found.kind == token::kind::RIGHT_BRACE {
-            return steps::take(class, trie, text, found);
+            return found.take(class, trie, text);
         }
-        let read = parse_enum_member(class, trie, text, found, base, parent, rest, comments);
+        let read = parse_enum_member(class, trie, text, found, parent, rest, comments);
         let Parsed::On(behind) = read else {
             return read;
         };

@@ -8,6 +8,7 @@ use parse_fields::annotations;
 use parse_fields::fields;
 use parse_values::types;
 use parser::NESTING;
+use steps::state::Parent;
 use steps::state::Parsed;
 use steps::state::State;
 use steps::table;
@@ -19,27 +20,23 @@ fn parse_throws(
     trie: &[u8; 512],
     text: &[u8],
     st: State,
-    base: u32,
-    parent: u32,
+    parent: Parent,
     rest: &mut [u32],
     comments: &mut [u32],
 ) -> Parsed
     requires { ⌜ Lent (now class) (now trie) (now text) ⌝ }
-    ensures { λ r. ⌜ Reads (throwsIn (now (text .entry)) base parent) st r (now (rest .entry)) (now (rest .exit)) (now (comments .entry)) (now (comments .exit)) ⌝ }
+    ensures { λ r. ⌜ Reads (throwsIn (now (text .entry)) (parent .base) (parent .node)) st r (now (rest .entry)) (now (rest .exit)) (now (comments .entry)) (now (comments .exit)) ⌝ }
 {
     if st.kind != token::kind::THROWS {
         return Parsed::On(st);
     }
-    let state = steps::advance(class, trie, text, st);
+    let state = st.advance(class, trie, text);
     fields::parse_fields(
         class,
         trie,
         text,
         state,
-        token::kind::LEFT_PAREN,
-        token::kind::RIGHT_PAREN,
-        flag::THROWN,
-        base,
+        fields::THROWN,
         parent,
         rest,
         comments,
@@ -53,18 +50,17 @@ fn parse_return_type(
     trie: &[u8; 512],
     text: &[u8],
     st: State,
-    base: u32,
-    parent: u32,
+    parent: Parent,
     rest: &mut [u32],
 ) -> Parsed
     requires { ⌜ Lent (now class) (now trie) (now text) ⌝ }
-    ensures { λ r. ⌜ Quiet (returnTypeIn (now (text .entry)) base parent) st r (now (rest .entry)) (now (rest .exit)) ⌝ }
+    ensures { λ r. ⌜ Quiet (returnTypeIn (now (text .entry)) (parent .base) (parent .node)) st r (now (rest .entry)) (now (rest .exit)) ⌝ }
 {
     if st.kind != token::kind::VOID {
-        return types::parse_type(class, trie, text, st, NESTING, base, parent, rest);
+        return types::parse_type(class, trie, text, st, NESTING, parent, rest);
     }
-    let state = steps::advance(class, trie, text, st);
-    Parsed::On(table::put_leaf(rest, state, ast::kind::KEYWORD_TYPE, base, parent))
+    let state = st.advance(class, trie, text);
+    Parsed::On(state.put_leaf(rest, ast::kind::KEYWORD_TYPE, parent))
 }
 
 // The flag of a kind, if the token ahead is of it.
@@ -82,7 +78,7 @@ fn skip_oneway(class: &[u8; 256], trie: &[u8; 512], text: &[u8], st: State) -> S
     if st.kind != token::kind::ONEWAY {
         return st;
     }
-    steps::advance(class, trie, text, st)
+    st.advance(class, trie, text)
 }
 
 // The return type and the name of a function.
@@ -91,15 +87,14 @@ fn parse_function_head(
     trie: &[u8; 512],
     text: &[u8],
     st: State,
-    base: u32,
-    parent: u32,
+    parent: Parent,
     rest: &mut [u32],
 ) -> Parsed
     requires { ⌜ Lent (now class) (now trie) (now text) ⌝ }
-    ensures { λ r. ⌜ Quiet (functionHeadIn (now (text .entry)) base parent) st r (now (rest .entry)) (now (rest .exit)) ⌝ }
+    ensures { λ r. ⌜ Quiet (functionHeadIn (now (text .entry)) (parent .base) (parent .node)) st r (now (rest .entry)) (now (rest .exit)) ⌝ }
 {
     let begun = skip_oneway(class, trie, text, st);
-    let read = parse_return_type(class, trie, text, begun, base, parent, rest);
+    let read = parse_return_type(class, trie, text, begun, parent, rest);
     let Parsed::On(typed) = read else {
         return read;
     };
@@ -109,7 +104,6 @@ fn parse_function_head(
         text,
         typed,
         error::UNEXPECTED_TOKEN,
-        base,
         parent,
         rest,
     )
@@ -121,20 +115,19 @@ fn parse_function_tail(
     trie: &[u8; 512],
     text: &[u8],
     st: State,
-    base: u32,
-    parent: u32,
+    parent: Parent,
     rest: &mut [u32],
     comments: &mut [u32],
 ) -> Parsed
     requires { ⌜ Lent (now class) (now trie) (now text) ⌝ }
-    ensures { λ r. ⌜ Reads (functionTailIn (now (text .entry)) base parent) st r (now (rest .entry)) (now (rest .exit)) (now (comments .entry)) (now (comments .exit)) ⌝ }
+    ensures { λ r. ⌜ Reads (functionTailIn (now (text .entry)) (parent .base) (parent .node)) st r (now (rest .entry)) (now (rest .exit)) (now (comments .entry)) (now (comments .exit)) ⌝ }
 {
-    let thrown = parse_throws(class, trie, text, st, base, parent, rest, comments);
+    let thrown = parse_throws(class, trie, text, st, parent, rest, comments);
     let Parsed::On(behind) = thrown else {
         return thrown;
     };
-    let state = steps::skip_comments(class, trie, text, behind, true, comments);
-    annotations::parse_annotations(class, trie, text, state, base, parent, rest)
+    let state = behind.skip_comments(class, trie, text, true, comments);
+    annotations::parse_annotations(class, trie, text, state, parent, rest)
 }
 
 // parse_function: its range starts at its name.
@@ -144,16 +137,19 @@ fn parse_function(
     trie: &[u8; 512],
     text: &[u8],
     st: State,
-    base: u32,
-    parent: u32,
+    parent: Parent,
     rest: &mut [u32],
     comments: &mut [u32],
 ) -> Parsed
     requires { ⌜ Lent (now class) (now trie) (now text) ⌝ }
-    ensures { λ r. ⌜ Reads (functionIn (now (text .entry)) base parent) st r (now (rest .entry)) (now (rest .exit)) (now (comments .entry)) (now (comments .exit)) ⌝ }
+    ensures { λ r. ⌜ Reads (functionIn (now (text .entry)) (parent .base) (parent .node)) st r (now (rest .entry)) (now (rest .exit)) (now (comments .entry)) (now (comments .exit)) ⌝ }
 {
-    let first = steps::own(table::open(st), st.next, comments);
-    let head = parse_function_head(class, trie, text, first, base, st.next, rest);
+    let under = Parent {
+        base: parent.base,
+        node: st.next,
+    };
+    let first = st.open().own(st.next, comments);
+    let head = parse_function_head(class, trie, text, first, under, rest);
     let Parsed::On(named) = head else {
         return head;
     };
@@ -162,18 +158,15 @@ fn parse_function(
         trie,
         text,
         named,
-        token::kind::LEFT_PAREN,
-        token::kind::RIGHT_PAREN,
-        0,
-        base,
-        st.next,
+        fields::PARAMETERS,
+        under,
         rest,
         comments,
     );
     let Parsed::On(behind) = read else {
         return read;
     };
-    let tail = parse_function_tail(class, trie, text, behind, base, st.next, rest, comments);
+    let tail = parse_function_tail(class, trie, text, behind, under, rest, comments);
     let Parsed::On(state) = tail else {
         return tail;
     };
@@ -183,16 +176,7 @@ fn parse_function(
     );
     let name = named.last;
     let start = name.start;
-    table::put_node(
-        rest,
-        state,
-        st.next,
-        ast::kind::FUNCTION,
-        flags,
-        start,
-        base,
-        parent,
-    );
+    state.put_node(rest, st.next, ast::kind::FUNCTION, flags, start, parent);
     Parsed::On(state)
 }
 
@@ -203,19 +187,17 @@ pub fn parse_functions(
     trie: &[u8; 512],
     text: &[u8],
     st: State,
-    base: u32,
-    parent: u32,
+    parent: Parent,
     rest: &mut [u32],
     comments: &mut [u32],
 ) -> Parsed
     requires { ⌜ Lent (now class) (now trie) (now text) ⌝ }
-    ensures { λ r. ⌜ Reads (functionsIn (now (text .entry)) base parent) st r (now (rest .entry)) (now (rest .exit)) (now (comments .entry)) (now (comments .exit)) ⌝ }
+    ensures { λ r. ⌜ Reads (functionsIn (now (text .entry)) (parent .base) (parent .node)) st r (now (rest .entry)) (now (rest .exit)) (now (comments .entry)) (now (comments .exit)) ⌝ }
 {
-    let opened = steps::expect(
+    let opened = st.expect(
         class,
         trie,
         text,
-        st,
         token::kind::LEFT_BRACE,
         error::UNEXPECTED_TOKEN,
     );
@@ -224,12 +206,12 @@ pub fn parse_functions(
     };
     let mut state = inside;
     loop {
-        let over = steps::skip(class, trie, text, state, true);
-        let found = steps::skip_comments(class, trie, text, over, false, comments);
+        let over = state.skip(class, trie, text, true);
+        let found = over.skip_comments(class, trie, text, false, comments);
         if found.kind == token::kind::RIGHT_BRACE {
-            return steps::take(class, trie, text, found);
+            return found.take(class, trie, text);
         }
-        let read = parse_function(class, trie, text, found, base, parent, rest, comments);
+        let read = parse_function(class, trie, text, found, parent, rest, comments);
         let Parsed::On(behind) = read else {
             return read;
         };

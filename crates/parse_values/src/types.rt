@@ -3,9 +3,9 @@ ghost use mathlib.Core.Path.{_≡_};
 ghost use Rattle.steps.specs.Into.{Lent, Quiet};
 ghost use Rattle.parse_values.specs.Into.{leafType, containerType, containedIn, complexIn, typeIn};
 use lexer::error;
+use steps::state::Parent;
 use steps::state::Parsed;
 use steps::state::State;
-use steps::table;
 
 // The record of a type that is one token, a keyword or a name; else 0.
 fn leaf_type(kind: u32) -> u32
@@ -49,39 +49,28 @@ pub fn parse_type(
     text: &[u8],
     st: State,
     depth: u32,
-    base: u32,
-    parent: u32,
+    parent: Parent,
     rest: &mut [u32],
 ) -> Parsed
     requires { ⌜ Lent (now class) (now trie) (now text) ⌝ }
-    ensures { λ r. ⌜ Quiet (typeIn (now (text .entry)) depth base parent) st r (now (rest .entry)) (now (rest .exit)) ⌝ }
+    ensures { λ r. ⌜ Quiet (typeIn (now (text .entry)) depth (parent .base) (parent .node)) st r (now (rest .entry)) (now (rest .exit)) ⌝ }
 {
-    let taken = steps::take(class, trie, text, st);
+    let taken = st.take(class, trie, text);
     let Parsed::On(state) = taken else {
         return taken;
     };
     let leaf = leaf_type(st.kind);
     if leaf != 0 {
-        return Parsed::On(table::put_leaf(rest, state, leaf, base, parent));
+        return Parsed::On(state.put_leaf(rest, leaf, parent));
     }
     let container = container_type(st.kind);
     if container == 0 {
-        return steps::refuse(st, error::UNSUPPORTED_TYPE);
+        return st.refuse(error::UNSUPPORTED_TYPE);
     }
     if depth == 0 {
-        return steps::refuse(st, error::TOO_DEEP);
+        return st.refuse(error::TOO_DEEP);
     }
-    parse_complex_type(
-        class,
-        trie,
-        text,
-        state,
-        container,
-        depth - 1,
-        base,
-        parent,
-        rest,
-    )
+    parse_complex_type(class, trie, text, state, container, depth - 1, parent, rest)
 }
 
 // parse_complex_type, parse_map_type: behind the container's keyword.
@@ -92,33 +81,34 @@ fn parse_complex_type(
     st: State,
     kind: u32,
     depth: u32,
-    base: u32,
-    parent: u32,
+    parent: Parent,
     rest: &mut [u32],
 ) -> Parsed
     requires { ⌜ Lent (now class) (now trie) (now text) ⌝ }
-    ensures { λ r. ⌜ Quiet (complexIn (now (text .entry)) kind (λ q. typeIn (now (text .entry)) depth base q) base parent) st r (now (rest .entry)) (now (rest .exit)) ⌝ }
+    ensures { λ r. ⌜ Quiet (complexIn (now (text .entry)) kind (λ q. typeIn (now (text .entry)) depth (parent .base) q) (parent .base) (parent .node)) st r (now (rest .entry)) (now (rest .exit)) ⌝ }
 {
-    let opened = steps::expect(
+    let under = Parent {
+        base: parent.base,
+        node: st.next,
+    };
+    let opened = st.open().expect(
         class,
         trie,
         text,
-        table::open(st),
         token::kind::LEFT_ANGLE,
         error::UNEXPECTED_TOKEN,
     );
     let Parsed::On(inner) = opened else {
         return opened;
     };
-    let read = parse_contained(class, trie, text, inner, kind, depth, base, st.next, rest);
+    let read = parse_contained(class, trie, text, inner, kind, depth, under, rest);
     let Parsed::On(behind) = read else {
         return read;
     };
-    let closed = steps::expect(
+    let closed = behind.expect(
         class,
         trie,
         text,
-        behind,
         token::kind::RIGHT_ANGLE,
         error::UNEXPECTED_TOKEN,
     );
@@ -127,7 +117,7 @@ fn parse_complex_type(
     };
     let last = st.last;
     let start = last.start;
-    table::put_node(rest, state, st.next, kind, 0, start, base, parent);
+    state.put_node(rest, st.next, kind, 0, start, parent);
     Parsed::On(state)
 }
 
@@ -139,30 +129,28 @@ fn parse_contained(
     st: State,
     kind: u32,
     depth: u32,
-    base: u32,
-    parent: u32,
+    parent: Parent,
     rest: &mut [u32],
 ) -> Parsed
     requires { ⌜ Lent (now class) (now trie) (now text) ⌝ }
-    ensures { λ r. ⌜ Quiet (containedIn (now (text .entry)) kind (typeIn (now (text .entry)) depth base parent)) st r (now (rest .entry)) (now (rest .exit)) ⌝ }
+    ensures { λ r. ⌜ Quiet (containedIn (now (text .entry)) kind (typeIn (now (text .entry)) depth (parent .base) (parent .node))) st r (now (rest .entry)) (now (rest .exit)) ⌝ }
 {
-    let first = parse_type(class, trie, text, st, depth, base, parent, rest);
+    let first = parse_type(class, trie, text, st, depth, parent, rest);
     if kind != ast::kind::MAP {
         return first;
     }
     let Parsed::On(key) = first else {
         return first;
     };
-    let comma = steps::expect(
+    let comma = key.expect(
         class,
         trie,
         text,
-        key,
         token::kind::COMMA,
         error::UNEXPECTED_TOKEN,
     );
     let Parsed::On(value) = comma else {
         return comma;
     };
-    parse_type(class, trie, text, value, depth, base, parent, rest)
+    parse_type(class, trie, text, value, depth, parent, rest)
 }

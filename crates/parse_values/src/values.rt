@@ -3,9 +3,9 @@ ghost use mathlib.Core.Path.{_≡_};
 ghost use Rattle.steps.specs.Into.{Lent, Quiet};
 ghost use Rattle.parse_values.specs.Into.{leafValue, elementsIn, listIn, propertyIn, propertiesIn, mapIn, isOpener, valueIn};
 use lexer::error;
+use steps::state::Parent;
 use steps::state::Parsed;
 use steps::state::State;
-use steps::table;
 
 // The record of a value that is one token; else 0.
 fn leaf_value(kind: u32) -> u32
@@ -51,31 +51,30 @@ pub fn parse_value(
     text: &[u8],
     st: State,
     depth: u32,
-    base: u32,
-    parent: u32,
+    parent: Parent,
     rest: &mut [u32],
 ) -> Parsed
     requires { ⌜ Lent (now class) (now trie) (now text) ⌝ }
-    ensures { λ r. ⌜ Quiet (valueIn (now (text .entry)) depth base parent) st r (now (rest .entry)) (now (rest .exit)) ⌝ }
+    ensures { λ r. ⌜ Quiet (valueIn (now (text .entry)) depth (parent .base) (parent .node)) st r (now (rest .entry)) (now (rest .exit)) ⌝ }
 {
-    let taken = steps::take(class, trie, text, st);
+    let taken = st.take(class, trie, text);
     let Parsed::On(state) = taken else {
         return taken;
     };
     let leaf = leaf_value(st.kind);
     if leaf != 0 {
-        return Parsed::On(table::put_leaf(rest, state, leaf, base, parent));
+        return Parsed::On(state.put_leaf(rest, leaf, parent));
     }
     if !is_opener(st.kind) {
-        return steps::refuse(st, error::INVALID_VALUE_DECLARATION);
+        return st.refuse(error::INVALID_VALUE_DECLARATION);
     }
     if depth == 0 {
-        return steps::refuse(st, error::TOO_DEEP);
+        return st.refuse(error::TOO_DEEP);
     }
     if st.kind == token::kind::LEFT_BRACKET {
-        return parse_list_value(class, trie, text, state, depth - 1, base, parent, rest);
+        return parse_list_value(class, trie, text, state, depth - 1, parent, rest);
     }
-    parse_map_value(class, trie, text, state, depth - 1, base, parent, rest)
+    parse_map_value(class, trie, text, state, depth - 1, parent, rest)
 }
 
 // parse_list_value: behind the bracket.
@@ -86,30 +85,24 @@ fn parse_list_value(
     text: &[u8],
     st: State,
     depth: u32,
-    base: u32,
-    parent: u32,
+    parent: Parent,
     rest: &mut [u32],
 ) -> Parsed
     requires { ⌜ Lent (now class) (now trie) (now text) ⌝ }
-    ensures { λ r. ⌜ Quiet (listIn (now (text .entry)) (λ q. valueIn (now (text .entry)) depth base q) base parent) st r (now (rest .entry)) (now (rest .exit)) ⌝ }
+    ensures { λ r. ⌜ Quiet (listIn (now (text .entry)) (λ q. valueIn (now (text .entry)) depth (parent .base) q) (parent .base) (parent .node)) st r (now (rest .entry)) (now (rest .exit)) ⌝ }
 {
-    let opened = table::open(st);
-    let read = parse_elements(class, trie, text, opened, depth, base, st.next, rest);
+    let under = Parent {
+        base: parent.base,
+        node: st.next,
+    };
+    let opened = st.open();
+    let read = parse_elements(class, trie, text, opened, depth, under, rest);
     let Parsed::On(state) = read else {
         return read;
     };
     let last = st.last;
     let start = last.start;
-    table::put_node(
-        rest,
-        state,
-        st.next,
-        ast::kind::LIST_VALUE,
-        0,
-        start,
-        base,
-        parent,
-    );
+    state.put_node(rest, st.next, ast::kind::LIST_VALUE, 0, start, parent);
     Parsed::On(state)
 }
 
@@ -120,21 +113,20 @@ fn parse_elements(
     text: &[u8],
     st: State,
     depth: u32,
-    base: u32,
-    parent: u32,
+    parent: Parent,
     rest: &mut [u32],
 ) -> Parsed
     requires { ⌜ Lent (now class) (now trie) (now text) ⌝ }
-    ensures { λ r. ⌜ Quiet (elementsIn (now (text .entry)) (valueIn (now (text .entry)) depth base parent)) st r (now (rest .entry)) (now (rest .exit)) ⌝ }
+    ensures { λ r. ⌜ Quiet (elementsIn (now (text .entry)) (valueIn (now (text .entry)) depth (parent .base) (parent .node))) st r (now (rest .entry)) (now (rest .exit)) ⌝ }
 {
     let mut state = st;
     loop {
-        let over = steps::skip_all(class, trie, text, state, true);
-        let found = steps::skip_all(class, trie, text, over, false);
+        let over = state.skip_all(class, trie, text, true);
+        let found = over.skip_all(class, trie, text, false);
         if found.kind == token::kind::RIGHT_BRACKET {
-            return steps::take(class, trie, text, found);
+            return found.take(class, trie, text);
         }
-        let read = parse_value(class, trie, text, found, depth, base, parent, rest);
+        let read = parse_value(class, trie, text, found, depth, parent, rest);
         let Parsed::On(behind) = read else {
             return read;
         };
@@ -150,30 +142,24 @@ fn parse_map_value(
     text: &[u8],
     st: State,
     depth: u32,
-    base: u32,
-    parent: u32,
+    parent: Parent,
     rest: &mut [u32],
 ) -> Parsed
     requires { ⌜ Lent (now class) (now trie) (now text) ⌝ }
-    ensures { λ r. ⌜ Quiet (mapIn (now (text .entry)) (λ q. valueIn (now (text .entry)) depth base q) base parent) st r (now (rest .entry)) (now (rest .exit)) ⌝ }
+    ensures { λ r. ⌜ Quiet (mapIn (now (text .entry)) (λ q. valueIn (now (text .entry)) depth (parent .base) q) (parent .base) (parent .node)) st r (now (rest .entry)) (now (rest .exit)) ⌝ }
 {
-    let opened = table::open(st);
-    let read = parse_properties(class, trie, text, opened, depth, base, st.next, rest);
+    let under = Parent {
+        base: parent.base,
+        node: st.next,
+    };
+    let opened = st.open();
+    let read = parse_properties(class, trie, text, opened, depth, under, rest);
     let Parsed::On(state) = read else {
         return read;
     };
     let last = st.last;
     let start = last.start;
-    table::put_node(
-        rest,
-        state,
-        st.next,
-        ast::kind::MAP_VALUE,
-        0,
-        start,
-        base,
-        parent,
-    );
+    state.put_node(rest, st.next, ast::kind::MAP_VALUE, 0, start, parent);
     Parsed::On(state)
 }
 
@@ -184,21 +170,20 @@ fn parse_properties(
     text: &[u8],
     st: State,
     depth: u32,
-    base: u32,
-    parent: u32,
+    parent: Parent,
     rest: &mut [u32],
 ) -> Parsed
     requires { ⌜ Lent (now class) (now trie) (now text) ⌝ }
-    ensures { λ r. ⌜ Quiet (propertiesIn (now (text .entry)) (propertyIn (now (text .entry)) (λ q. valueIn (now (text .entry)) depth base q) base parent)) st r (now (rest .entry)) (now (rest .exit)) ⌝ }
+    ensures { λ r. ⌜ Quiet (propertiesIn (now (text .entry)) (propertyIn (now (text .entry)) (λ q. valueIn (now (text .entry)) depth (parent .base) q) (parent .base) (parent .node))) st r (now (rest .entry)) (now (rest .exit)) ⌝ }
 {
     let mut state = st;
     loop {
-        let over = steps::skip_all(class, trie, text, state, true);
-        let found = steps::skip_all(class, trie, text, over, false);
+        let over = state.skip_all(class, trie, text, true);
+        let found = over.skip_all(class, trie, text, false);
         if found.kind == token::kind::RIGHT_BRACE {
-            return steps::take(class, trie, text, found);
+            return found.take(class, trie, text);
         }
-        let read = parse_property(class, trie, text, found, depth, base, parent, rest);
+        let read = parse_property(class, trie, text, found, depth, parent, rest);
         let Parsed::On(past) = read else {
             return read;
         };
@@ -214,43 +199,36 @@ fn parse_property(
     text: &[u8],
     st: State,
     depth: u32,
-    base: u32,
-    parent: u32,
+    parent: Parent,
     rest: &mut [u32],
 ) -> Parsed
     requires { ⌜ Lent (now class) (now trie) (now text) ⌝ }
-    ensures { λ r. ⌜ Quiet (propertyIn (now (text .entry)) (λ q. valueIn (now (text .entry)) depth base q) base parent) st r (now (rest .entry)) (now (rest .exit)) ⌝ }
+    ensures { λ r. ⌜ Quiet (propertyIn (now (text .entry)) (λ q. valueIn (now (text .entry)) depth (parent .base) q) (parent .base) (parent .node)) st r (now (rest .entry)) (now (rest .exit)) ⌝ }
 {
-    let opened = table::open(st);
-    let first = parse_value(class, trie, text, opened, depth, base, st.next, rest);
+    let under = Parent {
+        base: parent.base,
+        node: st.next,
+    };
+    let opened = st.open();
+    let first = parse_value(class, trie, text, opened, depth, under, rest);
     let Parsed::On(key) = first else {
         return first;
     };
-    let colon = steps::expect(
+    let colon = key.expect(
         class,
         trie,
         text,
-        key,
         token::kind::COLON,
         error::UNEXPECTED_TOKEN,
     );
     let Parsed::On(behind) = colon else {
         return colon;
     };
-    let second = parse_value(class, trie, text, behind, depth, base, st.next, rest);
+    let second = parse_value(class, trie, text, behind, depth, under, rest);
     let Parsed::On(state) = second else {
         return second;
     };
-    let start = steps::start_of(st);
-    table::put_node(
-        rest,
-        state,
-        st.next,
-        ast::kind::PROPERTY,
-        0,
-        start,
-        base,
-        parent,
-    );
+    let start = st.start();
+    state.put_node(rest, st.next, ast::kind::PROPERTY, 0, start, parent);
     Parsed::On(state)
 }

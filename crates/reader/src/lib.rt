@@ -47,7 +47,7 @@ fn over(st: State) -> Parsed
 {
     let last = st.last;
     if last.end.index == 1 {
-        return steps::refuse(st, error::UNEXPECTED_EOF);
+        return st.refuse(error::UNEXPECTED_EOF);
     }
     Parsed::On(st)
 }
@@ -63,9 +63,9 @@ fn between(
     requires { ⌜ Lent (now class) (now trie) (now text) ⌝ }
     ensures { λ r. ⌜ Keeps (betweenIn (now (text .entry))) st r (now (comments .entry)) (now (comments .exit)) ⌝ }
 {
-    let over = steps::skip(class, trie, text, st, true);
-    let found = steps::skip_comments(class, trie, text, over, false, comments);
-    steps::skip(class, trie, text, found, true)
+    let over = st.skip(class, trie, text, true);
+    let found = over.skip_comments(class, trie, text, false, comments);
+    found.skip(class, trie, text, true)
 }
 
 // parse: all definitions.
@@ -114,7 +114,7 @@ fn begin(class: &[u8; 256], trie: &[u8; 512], text: &[u8]) -> State
         waiting: 0,
     };
     let found = steps::look(class, trie, text, start);
-    steps::ahead(found, st)
+    st.ahead(found)
 }
 
 // A table's numbers become 0 from an index on.

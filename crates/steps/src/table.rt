@@ -1,10 +1,8 @@
 // Records in a lent table.
 ghost use mathlib.Core.Path.{_≡_};
 ghost use Rattle.ast.specs.Records.{row};
-ghost use Rattle.steps.specs.Into.{Puts, bump, sum, put, putParent, placeOf, opened, leafIn, putNode};
-use crate::state::State;
+ghost use Rattle.steps.specs.Into.{bump, sum, put, putParent};
 use lexer::location::LOC;
-use lexer::location::Span;
 
 // The record's width.
 pub const WIDTH: usize = 9;
@@ -53,65 +51,4 @@ pub fn put_parent(table: &mut [u32], index: usize, parent: u32)
         return;
     }
     table[index * WIDTH + 1] = parent;
-}
-
-// Node `number`, in the table whose first record is node `base`.
-fn place_of(base: u32, number: u32) -> usize
-    ensures { λ r. ⌜ r ≡ placeOf base number ⌝ }
-{
-    if number < base {
-        0
-    } else {
-        (number - base) as usize
-    }
-}
-
-// The state with one node more.
-pub fn open(st: State) -> State
-    ensures { λ r. ⌜ r ≡ opened st ⌝ }
-{
-    let loc = st.loc;
-    let last = st.last;
-    State {
-        kind: st.kind,
-        loc,
-        last,
-        next: bump(st.next),
-        owned: st.owned,
-        waiting: st.waiting,
-    }
-}
-
-// The last token taken, as a node.
-pub fn put_leaf(rest: &mut [u32], st: State, kind: u32, base: u32, parent: u32) -> State
-    ensures { λ r. ⌜ Puts (leafIn kind base parent) st r (now (rest .entry)) (now (rest .exit)) ⌝ }
-{
-    let loc = st.last;
-    put_record(rest, place_of(base, st.next), kind, parent, 0, loc);
-    open(st)
-}
-
-// A node from `start` to the end of the last token taken.
-pub fn put_node(
-    rest: &mut [u32],
-    st: State,
-    number: u32,
-    kind: u32,
-    flags: u32,
-    start: Span,
-    base: u32,
-    parent: u32,
-)
-    ensures { λ _. ⌜ now (rest .exit) ≡ putNode number kind flags start base parent st (now (rest .entry)) ⌝ }
-{
-    let last = st.last;
-    let end = last.end;
-    put_record(
-        rest,
-        place_of(base, number),
-        kind,
-        parent,
-        flags,
-        LOC { start, end },
-    );
 }

@@ -5,7 +5,7 @@ use Rattle.parse_definitions.proofs.close.Statement.{statement}
 use Rattle.parse_definitions.proofs.close.Tie as tie
 
 same-length : tie.Need-same-length
-same-length c = c .before .before .put-node .kept .0
+same-length c = c .before .before .put-node .kept .1 .0
 
 returns : tie.Need-returns
 returns c = λ u. recorded _ _ _ _ _ _ (c .before .before .put-node .ensures)

@@ -7,7 +7,7 @@ use Rattle.parse_definitions.proofs.parse_const.Statement.{statement}
 use Rattle.parse_definitions.proofs.parse_const.Tie as tie
 
 same-length : tie.Need-same-length
-same-length c = c .before .before .before .before .parse-typed-name .kept .1 .1 .1 .1 .1 .1 .1 .0
+same-length c = c .before .before .before .before .parse-typed-name .kept .1 .1 .1 .1 .1 .1 .0
 
 same-length-2 : tie.Need-same-length-2
 same-length-2 c = c .before .before .before .before .before .before .before .before .begin .kept .1 .1 .1 .1 .0
@@ -19,7 +19,7 @@ expect-requires : tie.Need-expect-requires
 expect-requires c κs = c .before .before .before .before .before .before .before .before .before .before .before .before .before .before .pre
 
 same-length-3 : tie.Need-same-length-3
-same-length-3 c = c .before .before .before .before .before .before .before .before .parse-typed-name .kept .1 .1 .1 .1 .1 .1 .1 .0
+same-length-3 c = c .before .before .before .before .before .before .before .before .parse-typed-name .kept .1 .1 .1 .1 .1 .1 .0
 
 same-length-4 : tie.Need-same-length-4
 same-length-4 c = c .before .before .before .before .before .before .before .before .before .before .before .before .begin .kept .1 .1 .1 .1 .0
@@ -31,7 +31,7 @@ parse-value-requires : tie.Need-parse-value-requires
 parse-value-requires c κs = c .before .before .before .before .before .before .before .before .before .before .before .before .before .before .before .before .before .before .before .pre
 
 same-length-5 : tie.Need-same-length-5
-same-length-5 c = c .before .before .before .before .parse-value .kept .1 .1 .1 .1 .1 .1 .1 .0 ∙ c .before .before .before .before .before .before .before .before .before .before .before .before .before .before .before .parse-typed-name .kept .1 .1 .1 .1 .1 .1 .1 .0
+same-length-5 c = c .before .before .before .before .parse-value .kept .1 .1 .1 .1 .1 .1 .0 ∙ c .before .before .before .before .before .before .before .before .before .before .before .before .before .before .before .parse-typed-name .kept .1 .1 .1 .1 .1 .1 .0
 
 same-length-6 : tie.Need-same-length-6
 same-length-6 c = c .before .before .before .before .before .before .before .before .before .before .before .before .before .before .before .before .before .before .before .begin .kept .1 .1 .1 .1 .0
@@ -43,7 +43,7 @@ skip-comments-requires : tie.Need-skip-comments-requires
 skip-comments-requires c κs = c .before .before .before .before .before .before .before .before .before .before .before .before .before .before .before .before .before .before .before .before .before .before .before .before .before .before .before .before .before .before .pre
 
 same-length-7 : tie.Need-same-length-7
-same-length-7 c = c .before .before .before .before .before .before .close .kept .0 ∙ c .before .before .before .before .before .before .before .before .before .before .before .before .before .parse-value .kept .1 .1 .1 .1 .1 .1 .1 .0 ∙ c .before .before .before .before .before .before .before .before .before .before .before .before .before .before .before .before .before .before .before .before .before .before .before .before .parse-typed-name .kept .1 .1 .1 .1 .1 .1 .1 .0
+same-length-7 c = c .before .before .before .before .before .before .close .kept .0 ∙ c .before .before .before .before .before .before .before .before .before .before .before .before .before .parse-value .kept .1 .1 .1 .1 .1 .1 .0 ∙ c .before .before .before .before .before .before .before .before .before .before .before .before .before .before .before .before .before .before .before .before .before .before .before .before .parse-typed-name .kept .1 .1 .1 .1 .1 .1 .0
 
 same-length-8 : tie.Need-same-length-8
 same-length-8 c = c .before .before .skip-comments .kept .1 .1 .1 .1 .1 .0 ∙ c .before .before .before .before .before .before .before .before .before .before .before .before .before .before .before .before .before .before .before .before .before .before .before .before .before .before .before .before .begin .kept .1 .1 .1 .1 .0

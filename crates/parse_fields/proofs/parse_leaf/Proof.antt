@@ -9,7 +9,7 @@ returns : tie.Need-returns
 returns c = λ u. off _ _ _ (token-is _ _ _ _ _ _ _ _ _) _ _ _ _ _ (c .before .before .expect .ensures _ _) (c .enum-told .given .1) _ _
 
 same-length : tie.Need-same-length
-same-length c = c .before .before .put-leaf .kept .0
+same-length c = c .before .before .put-leaf .kept .1 .0
 
 returns-2 : tie.Need-returns-2
 returns-2 c = λ u. ends _ _ _ _ _ (on _ _ _ (token-is _ _ _ _ _ _ _ _ _) _ _ _ _ (c .before .before .before .before .before .before .before .expect .ensures _ _) (c .before .before .before .before .before .taken .given .1)) (c .before .before .put-leaf .ensures u)

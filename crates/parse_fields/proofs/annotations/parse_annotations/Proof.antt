@@ -6,7 +6,7 @@ use Rattle.parse_fields.proofs.annotations.parse_annotations.Statement.
 use Rattle.parse_fields.proofs.annotations.parse_annotations.Tie as tie
 
 returns-2 : tie.Need-returns-2
-returns-2 c = let a = c .before .before .before .before .args in λ u. ret _ _ _ _ (no _ _ _ _ _ (annotations-is (a .text .now) (a .base) (a .parent) (a .st) (a .rest .now) u) (c .if1 .left))
+returns-2 c = let a = c .before .before .before .before .args in λ u. ret _ _ _ _ (no _ _ _ _ _ (annotations-is (a .text .now) (a .parent .base) (a .parent .node) (a .st) (a .rest .now) u) (c .if1 .left))
 
 pub parse-annotations-spec : {M : Type 1} → statement M
 parse-annotations-spec = tie.close (tie.spec (λ c κs. search needs) (λ c. search needs) (λ c. search needs) returns-2)

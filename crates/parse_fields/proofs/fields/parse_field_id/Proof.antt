@@ -19,7 +19,7 @@ expect-requires : tie.Need-expect-requires
 expect-requires c κs = c .before .before .before .before .before .before .before .before .before .before .before .before .before .before .pre
 
 same-length : tie.Need-same-length
-same-length c = c .before .before .before .put-leaf .kept .0
+same-length c = c .before .before .before .put-leaf .kept .1 .0
 
 returns-4 : tie.Need-returns-4
 returns-4 c = λ u. last _ _ _ _ _ (kept _ _ _ (yes-by _ _ _ _ _ (yes _ _ _ _ _ (on _ _ _ (field-id-is _ _ _ _ _ _) _ _ _ _ (c .before .before .before .before .before .before .before .before .before .before .before .before .take .ensures _ u) (c .before .before .before .before .before .before .before .before .before .before .taken .given .1)) (c .before .before .before .before .before .before .before .if1 .left)) (c .before .before .before .before .before .before .is-id-at .ensures) (not-false _ (c .before .before .before .before .before .if2 .left))) _ _ _ (c .before .before .before .put-leaf .ensures u)) (c .expect .ensures _ u)

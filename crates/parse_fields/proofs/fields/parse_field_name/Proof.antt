@@ -11,7 +11,7 @@ returns : tie.Need-returns
 returns c = λ u. fails _ _ _ _ _ _ (no-by _ _ _ _ _ (field-name-is _ _ _ _ _ _) (c .before .before .is-field-name .ensures) (not-true _ (c .before .if1 .taken))) (c .refuse .ensures _ _)
 
 same-length : tie.Need-same-length
-same-length c = c .before .before .put-leaf .kept .0
+same-length c = c .before .before .put-leaf .kept .1 .0
 
 returns-2 : tie.Need-returns-2
 returns-2 c = λ u. ends _ _ _ _ _ (yes-by _ _ _ _ _ (field-name-is _ _ _ _ _ _) (c .before .before .before .before .before .before .is-field-name .ensures) (not-false _ (c .before .before .before .before .before .if1 .left))) (given (leafIn _ _ _) _ _ _ _ _ (c .before .before .before .before .advance .ensures) (c .before .before .put-leaf .ensures u))

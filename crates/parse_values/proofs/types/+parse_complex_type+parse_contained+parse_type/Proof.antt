@@ -18,12 +18,12 @@ use Rattle.parse_values.proofs.types.+parse_complex_type+parse_containe
 use Rattle.parse_values.proofs.types.parse_type.Reads as parse-type
 use Rattle.parse_values.proofs.types.parse_type.Kinds as parse-type-kinds
 use Rattle.parse_values.proofs.types.+parse_complex_type+parse_contained+parse_type.Lts-parse_type as parse-type-lts
-use Rattle.steps.proofs.expect.Reads as expect-reads
-use Rattle.steps.proofs.refuse.Reads as refuse-reads
-use Rattle.steps.proofs.take.Reads as take-reads
-use Rattle.steps.proofs.table.open.Reads as open-reads
-use Rattle.steps.proofs.table.put_leaf.Reads as put-leaf-reads
-use Rattle.steps.proofs.table.put_node.Reads as put-node-reads
+use Rattle.steps.proofs.state.State.expect.Reads as expect-reads
+use Rattle.steps.proofs.state.State.refuse.Reads as refuse-reads
+use Rattle.steps.proofs.state.State.take.Reads as take-reads
+use Rattle.steps.proofs.state.State.open.Reads as open-reads
+use Rattle.steps.proofs.state.State.put_leaf.Reads as put-leaf-reads
+use Rattle.steps.proofs.state.State.put_node.Reads as put-node-reads
 use Rattle.parse_values.proofs.types.container_type.Reads as container-type-reads
 use Rattle.parse_values.proofs.types.leaf_type.Reads as leaf-type-reads
 use Rattle.parse_values.proofs.types.+parse_complex_type+parse_contained+parse_type.{statement}

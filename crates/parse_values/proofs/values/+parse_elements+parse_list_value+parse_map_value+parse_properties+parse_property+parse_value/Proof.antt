@@ -36,14 +36,14 @@ use Rattle.parse_values.proofs.values.+parse_elements+parse_list_value+
 use Rattle.parse_values.proofs.values.parse_value.Reads as parse-value
 use Rattle.parse_values.proofs.values.parse_value.Kinds as parse-value-kinds
 use Rattle.parse_values.proofs.values.+parse_elements+parse_list_value+parse_map_value+parse_properties+parse_property+parse_value.Lts-parse_value as parse-value-lts
-use Rattle.steps.proofs.expect.Reads as expect-reads
-use Rattle.steps.proofs.refuse.Reads as refuse-reads
-use Rattle.steps.proofs.skip_all.Reads as skip-all-reads
-use Rattle.steps.proofs.start_of.Reads as start-of-reads
-use Rattle.steps.proofs.take.Reads as take-reads
-use Rattle.steps.proofs.table.open.Reads as open-reads
-use Rattle.steps.proofs.table.put_leaf.Reads as put-leaf-reads
-use Rattle.steps.proofs.table.put_node.Reads as put-node-reads
+use Rattle.steps.proofs.state.State.expect.Reads as expect-reads
+use Rattle.steps.proofs.state.State.refuse.Reads as refuse-reads
+use Rattle.steps.proofs.state.State.skip_all.Reads as skip-all-reads
+use Rattle.steps.proofs.state.State.start.Reads as start-reads
+use Rattle.steps.proofs.state.State.take.Reads as take-reads
+use Rattle.steps.proofs.state.State.open.Reads as open-reads
+use Rattle.steps.proofs.state.State.put_leaf.Reads as put-leaf-reads
+use Rattle.steps.proofs.state.State.put_node.Reads as put-node-reads
 use Rattle.parse_values.proofs.values.is_opener.Reads as is-opener-reads
 use Rattle.parse_values.proofs.values.leaf_value.Reads as leaf-value-reads
 use Rattle.parse_values.proofs.values.+parse_elements+parse_list_value+parse_map_value+parse_properties+parse_property+parse_value.{statement}
@@ -116,22 +116,22 @@ abbrev parse-properties-calls : ℕ → parse-properties-lts.Claims
 parse-properties-calls t = (skip-all-reads.Asked, skip-all-reads.Learnt, take-reads.Asked, take-reads.Learnt, parse-property-below t, parse-property.Post)
 
 abbrev parse-property-calls : ℕ → parse-property-lts.Claims
-parse-property-calls t = (open-reads.Asked, open-reads.Learnt, parse-value-below t, parse-value.Post, expect-reads.Asked, expect-reads.Learnt, start-of-reads.Asked, start-of-reads.Learnt, put-node-reads.Asked, put-node-reads.Learnt)
+parse-property-calls t = (open-reads.Asked, open-reads.Learnt, parse-value-below t, parse-value.Post, expect-reads.Asked, expect-reads.Learnt, start-reads.Asked, start-reads.Learnt, put-node-reads.Asked, put-node-reads.Learnt)
 
 abbrev parse-value-calls : ℕ → parse-value-lts.Claims
 parse-value-calls t = (take-reads.Asked, take-reads.Learnt, leaf-value-reads.Asked, leaf-value-reads.Learnt, put-leaf-reads.Asked, put-leaf-reads.Learnt, is-opener-reads.Asked, is-opener-reads.Learnt, refuse-reads.Asked, refuse-reads.Learnt, parse-list-value-below t, parse-list-value.Post, parse-map-value-below t, parse-map-value.Post)
 
 abbrev parse-elements-Inv-loop : parse-elements-lts.InvT-loop
-parse-elements-Inv-loop class trie text depth base parent rest₀ state₀ rest state = ((u : List ℕ) → elementsIn text (valueIn text depth base parent) state₀ rest₀ u ≡ elementsIn text (valueIn text depth base parent) state rest u) × (length rest ≡ length rest₀) × (bytesLeft text state ≤ bytesLeft text state₀)
+parse-elements-Inv-loop class trie text depth parent rest₀ state₀ rest state = ((u : List ℕ) → elementsIn text (valueIn text depth (parent .base) (parent .node)) state₀ rest₀ u ≡ elementsIn text (valueIn text depth (parent .base) (parent .node)) state rest u) × (length rest ≡ length rest₀) × (bytesLeft text state ≤ bytesLeft text state₀)
 
 abbrev parse-elements-μ-loop : parse-elements-lts.MeasureT-loop
-parse-elements-μ-loop class trie text depth base parent rest₀ state₀ rest state = bytesLeft text state
+parse-elements-μ-loop class trie text depth parent rest₀ state₀ rest state = bytesLeft text state
 
 abbrev parse-properties-Inv-loop : parse-properties-lts.InvT-loop
-parse-properties-Inv-loop class trie text depth base parent rest₀ state₀ rest state = ((u : List ℕ) → propertiesIn text (propertyIn text (λ q. valueIn text depth base q) base parent) state₀ rest₀ u ≡ propertiesIn text (propertyIn text (λ q. valueIn text depth base q) base parent) state rest u) × (length rest ≡ length rest₀) × (bytesLeft text state ≤ bytesLeft text state₀)
+parse-properties-Inv-loop class trie text depth parent rest₀ state₀ rest state = ((u : List ℕ) → propertiesIn text (propertyIn text (λ q. valueIn text depth (parent .base) q) (parent .base) (parent .node)) state₀ rest₀ u ≡ propertiesIn text (propertyIn text (λ q. valueIn text depth (parent .base) q) (parent .base) (parent .node)) state rest u) × (length rest ≡ length rest₀) × (bytesLeft text state ≤ bytesLeft text state₀)
 
 abbrev parse-properties-μ-loop : parse-properties-lts.MeasureT-loop
-parse-properties-μ-loop class trie text depth base parent rest₀ state₀ rest state = bytesLeft text state
+parse-properties-μ-loop class trie text depth parent rest₀ state₀ rest state = bytesLeft text state
 
 module _ (t : ℕ) where
   parse-elements-loop-holds : parse-elements-lts.Need-loop-holds (parse-elements-calls t) (parse-elements-at t) parse-elements.Post parse-elements-Inv-loop parse-elements-μ-loop
@@ -159,7 +159,7 @@ module _ (t : ℕ) where
   parse-elements-loop-less c = omega (arith, both-left _ _ _ _ (c .before .before .before .before .before .before .before .before .before .before .skip-all .ensures) (c .before .before .before .before .before .before .before .before .before .skip-all2 .ensures), quiet-left _ _ (value-falls _ _ _ _) _ _ _ _ _ (c .before .before .before .before .before .parse-value .ensures) (c .before .read .given .1))
 
   parse-elements-loop-again : parse-elements-lts.Need-loop-again (parse-elements-calls t) (parse-elements-at t) parse-elements.Post parse-elements-Inv-loop parse-elements-μ-loop
-  parse-elements-loop-again c = (λ u. on _ _ _ (stays _ _ _ _ _ (elements-turn _ _ (value-falls _ _ _ _) _ _ _ _ _ _ (c .before .before .before .before .before .before .before .before .before .before .before .loop .inv .0 _) (c .before .before .before .before .before .before .before .before .before .before .skip-all .ensures) (c .before .before .before .before .before .before .before .before .before .skip-all2 .ensures)) (c .before .before .before .before .before .before .before .if1 .left)) _ _ _ _ (c .before .before .before .before .before .parse-value .ensures _) (c .before .read .given .1), c .before .before .before .before .before .parse-value .kept .1 .1 .1 .1 .1 .1 .1 .0 ∙ c .before .before .before .before .before .before .before .before .before .before .before .loop .inv .1, omega (arith, c .before .before .before .before .before .before .before .before .before .before .before .loop .inv .2, both-left _ _ _ _ (c .before .before .before .before .before .before .before .before .before .before .skip-all .ensures) (c .before .before .before .before .before .before .before .before .before .skip-all2 .ensures), quiet-left _ _ (value-falls _ _ _ _) _ _ _ _ _ (c .before .before .before .before .before .parse-value .ensures) (c .before .read .given .1)))
+  parse-elements-loop-again c = (λ u. on _ _ _ (stays _ _ _ _ _ (elements-turn _ _ (value-falls _ _ _ _) _ _ _ _ _ _ (c .before .before .before .before .before .before .before .before .before .before .before .loop .inv .0 _) (c .before .before .before .before .before .before .before .before .before .before .skip-all .ensures) (c .before .before .before .before .before .before .before .before .before .skip-all2 .ensures)) (c .before .before .before .before .before .before .before .if1 .left)) _ _ _ _ (c .before .before .before .before .before .parse-value .ensures _) (c .before .read .given .1), c .before .before .before .before .before .parse-value .kept .1 .1 .1 .1 .1 .1 .0 ∙ c .before .before .before .before .before .before .before .before .before .before .before .loop .inv .1, omega (arith, c .before .before .before .before .before .before .before .before .before .before .before .loop .inv .2, both-left _ _ _ _ (c .before .before .before .before .before .before .before .before .before .before .skip-all .ensures) (c .before .before .before .before .before .before .before .before .before .skip-all2 .ensures), quiet-left _ _ (value-falls _ _ _ _) _ _ _ _ _ (c .before .before .before .before .before .parse-value .ensures) (c .before .read .given .1)))
 
   parse-list-value-parse-elements-requires : parse-list-value-lts.Need-parse-elements-requires (parse-list-value-calls t) (parse-list-value-at t) parse-list-value.Post
   parse-list-value-parse-elements-requires c κs = (omega (arith, c .before .before .before .before .pre .0, opened-by (c .before .before .before .before .args .text .now) _ _ (c .before .«open» .ensures)), c .before .before .before .before .pre .1)
@@ -204,7 +204,7 @@ module _ (t : ℕ) where
   parse-properties-loop-less c = omega (arith, both-left _ _ _ _ (c .before .before .before .before .before .before .before .before .before .before .skip-all .ensures) (c .before .before .before .before .before .before .before .before .before .skip-all2 .ensures), quiet-left _ _ (property-falls _ _ (λ q. value-falls _ _ _ q) _ _) _ _ _ _ _ (c .before .before .before .before .before .parse-property .ensures) (c .before .read .given .1))
 
   parse-properties-loop-again : parse-properties-lts.Need-loop-again (parse-properties-calls t) (parse-properties-at t) parse-properties.Post parse-properties-Inv-loop parse-properties-μ-loop
-  parse-properties-loop-again c = (λ u. on _ _ _ (stays _ _ _ _ _ (properties-turn _ _ (property-falls _ _ (λ q. value-falls _ _ _ q) _ _) _ _ _ _ _ _ (c .before .before .before .before .before .before .before .before .before .before .before .loop .inv .0 _) (c .before .before .before .before .before .before .before .before .before .before .skip-all .ensures) (c .before .before .before .before .before .before .before .before .before .skip-all2 .ensures)) (c .before .before .before .before .before .before .before .if1 .left)) _ _ _ _ (c .before .before .before .before .before .parse-property .ensures _) (c .before .read .given .1), c .before .before .before .before .before .parse-property .kept .1 .1 .1 .1 .1 .1 .1 .0 ∙ c .before .before .before .before .before .before .before .before .before .before .before .loop .inv .1, omega (arith, c .before .before .before .before .before .before .before .before .before .before .before .loop .inv .2, both-left _ _ _ _ (c .before .before .before .before .before .before .before .before .before .before .skip-all .ensures) (c .before .before .before .before .before .before .before .before .before .skip-all2 .ensures), quiet-left _ _ (property-falls _ _ (λ q. value-falls _ _ _ q) _ _) _ _ _ _ _ (c .before .before .before .before .before .parse-property .ensures) (c .before .read .given .1)))
+  parse-properties-loop-again c = (λ u. on _ _ _ (stays _ _ _ _ _ (properties-turn _ _ (property-falls _ _ (λ q. value-falls _ _ _ q) _ _) _ _ _ _ _ _ (c .before .before .before .before .before .before .before .before .before .before .before .loop .inv .0 _) (c .before .before .before .before .before .before .before .before .before .before .skip-all .ensures) (c .before .before .before .before .before .before .before .before .before .skip-all2 .ensures)) (c .before .before .before .before .before .before .before .if1 .left)) _ _ _ _ (c .before .before .before .before .before .parse-property .ensures _) (c .before .read .given .1), c .before .before .before .before .before .parse-property .kept .1 .1 .1 .1 .1 .1 .0 ∙ c .before .before .before .before .before .before .before .before .before .before .before .loop .inv .1, omega (arith, c .before .before .before .before .before .before .before .before .before .before .before .loop .inv .2, both-left _ _ _ _ (c .before .before .before .before .before .before .before .before .before .before .skip-all .ensures) (c .before .before .before .before .before .before .before .before .before .skip-all2 .ensures), quiet-left _ _ (property-falls _ _ (λ q. value-falls _ _ _ q) _ _) _ _ _ _ _ (c .before .before .before .before .before .parse-property .ensures) (c .before .read .given .1)))
 
   parse-property-parse-value-requires : parse-property-lts.Need-parse-value-requires (parse-property-calls t) (parse-property-at t) parse-property.Post
   parse-property-parse-value-requires c κs = (omega (arith, c .before .before .before .before .pre .0, opened-by (c .before .before .before .before .args .text .now) _ _ (c .before .«open» .ensures)), c .before .before .before .before .pre .1)
@@ -225,10 +225,10 @@ module _ (t : ℕ) where
   parse-property-returns-3 c = λ u. off _ _ _ (on _ _ _ (on _ _ _ (property-is _ _ _ _ _ _ _ refl) _ _ _ _ (given (valueIn _ _ _ _) _ _ _ _ _ (c .before .before .before .before .before .before .before .before .before .before .before .before .before .before .before .before .before .«open» .ensures) (c .before .before .before .before .before .before .before .before .before .before .before .before .before .before .before .parse-value .ensures _)) (c .before .before .before .before .before .before .before .before .before .before .before .first .given .1)) _ _ _ _ (c .before .before .before .before .before .before .before .before .before .expect .ensures _ _) (c .before .before .before .before .before .before .before .colon .given .1)) _ _ _ _ _ (c .before .before .before .before .parse-value2 .ensures _) (c .enum-told3 .given .1) _ _
 
   parse-property-same-length-4 : parse-property-lts.Need-same-length-4 (parse-property-calls t) (parse-property-at t) parse-property.Post
-  parse-property-same-length-4 c = c .before .before .put-node .kept .0 ∙ c .before .before .before .before .before .before .before .before .before .before .parse-value2 .kept .1 .1 .1 .1 .1 .1 .1 .0 ∙ c .before .before .before .before .before .before .before .before .before .before .before .before .before .before .before .before .before .before .before .before .before .parse-value .kept .1 .1 .1 .1 .1 .1 .1 .0
+  parse-property-same-length-4 c = c .before .before .put-node .kept .1 .0 ∙ c .before .before .before .before .before .before .before .before .before .before .parse-value2 .kept .1 .1 .1 .1 .1 .1 .0 ∙ c .before .before .before .before .before .before .before .before .before .before .before .before .before .before .before .before .before .before .before .before .before .parse-value .kept .1 .1 .1 .1 .1 .1 .0
 
   parse-property-returns-4 : parse-property-lts.Need-returns-4 (parse-property-calls t) (parse-property-at t) parse-property.Post
-  parse-property-returns-4 c = λ u. node _ _ _ _ _ _ _ _ _ _ _ (on _ _ _ (on _ _ _ (on _ _ _ (property-is _ _ _ _ _ _ _ (c .before .before .before .before .start-of .ensures)) _ _ _ _ (given (valueIn _ _ _ _) _ _ _ _ _ (c .before .before .before .before .before .before .before .before .before .before .before .before .before .before .before .before .before .before .before .before .before .before .before .«open» .ensures) (c .before .before .before .before .before .before .before .before .before .before .before .before .before .before .before .before .before .before .before .before .before .parse-value .ensures _)) (c .before .before .before .before .before .before .before .before .before .before .before .before .before .before .before .before .before .first .given .1)) _ _ _ _ (c .before .before .before .before .before .before .before .before .before .before .before .before .before .before .before .expect .ensures _ _) (c .before .before .before .before .before .before .before .before .before .before .before .before .before .colon .given .1)) _ _ _ _ (c .before .before .before .before .before .before .before .before .before .before .parse-value2 .ensures _) (c .before .before .before .before .before .before .second .given .1)) (c .before .before .put-node .ensures)
+  parse-property-returns-4 c = λ u. node _ _ _ _ _ _ _ _ _ _ _ (on _ _ _ (on _ _ _ (on _ _ _ (property-is _ _ _ _ _ _ _ (c .before .before .before .before .start .ensures)) _ _ _ _ (given (valueIn _ _ _ _) _ _ _ _ _ (c .before .before .before .before .before .before .before .before .before .before .before .before .before .before .before .before .before .before .before .before .before .before .before .«open» .ensures) (c .before .before .before .before .before .before .before .before .before .before .before .before .before .before .before .before .before .before .before .before .before .parse-value .ensures _)) (c .before .before .before .before .before .before .before .before .before .before .before .before .before .before .before .before .before .first .given .1)) _ _ _ _ (c .before .before .before .before .before .before .before .before .before .before .before .before .before .before .before .expect .ensures _ _) (c .before .before .before .before .before .before .before .before .before .before .before .before .before .colon .given .1)) _ _ _ _ (c .before .before .before .before .before .before .before .before .before .before .parse-value2 .ensures _) (c .before .before .before .before .before .before .second .given .1)) (c .before .before .put-node .ensures)
 
   parse-value-take-requires : parse-value-lts.Need-take-requires (parse-value-calls t) (parse-value-at t) parse-value.Post
   parse-value-take-requires c κs = c .before .before .pre .1
