@@ -160,7 +160,7 @@ fn same_tokens(lut: &[u8; 768], text: &[u8], rows: &[u8], verdict: u32, place: u
     same_end(lexer::next_token(lut, text, from), verdict, place)
 }
 
-// The same with the tables.
+// The same with the table.
 fn same_cuts(text: &[u8], rows: &[u8], verdict: u32, place: u32) -> bool
     requires { ⌜ length (now text) ≤ 65536 ⌝ }
 {

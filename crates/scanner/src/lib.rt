@@ -62,7 +62,7 @@ fn piece_by(lut: &[u8; 768], text: &[u8], at: usize) -> Piece
     }
 }
 
-// The same by the lexer's own tables.
+// The same by the lexer's own table.
 fn piece_at(text: &[u8], at: usize) -> Piece
     ensures { λ r. ⌜ r ≡ pieceAt (now (text .entry)) at ⌝ }
 {

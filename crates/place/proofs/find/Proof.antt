@@ -1,4 +1,4 @@
--- `place::find` meets its contract: the tables are those of the specification.
+-- `place::find` meets its contract: the table is that of the specification.
 use mathlib.Core.Path.{refl, _∙_}
 use borrow.Author.Needs.{needs}
 use Rattle.token.specs.Tables.{classes, trie, tables}

@@ -1,4 +1,4 @@
--- `replay_tokens::same_cuts` meets its contract: the tables are those of the specification.
+-- `replay_tokens::same_cuts` meets its contract: the table is that of the specification.
 use mathlib.Core.Path.{refl}
 use Rattle.token.specs.Tables.{classes, trie, tables}
 use borrow.Author.Needs.{needs}

@@ -1,4 +1,4 @@
--- `scanner::piece_at` meets its contract: the lexer's tables are the ones that the scan's definition is held to.
+-- `scanner::piece_at` meets its contract: the lexer's table is the one that the scan's definition is held to.
 use mathlib.Core.Path.{refl}
 use borrow.Author.Needs.{needs}
 use Rattle.token.specs.Tables.{classes, trie, tables}
