@@ -1,5 +1,5 @@
 #!/usr/bin/env python3
-"""Makes the lexer's constant tables: crates/lexer/src/table.rt and crates/token/specs/Tables.antt.
+"""Makes the lexer's constant table and its definition: crates/lexer/src/table.rt and crates/token/specs/Tables.antt.
 
 The class of each byte, and the keywords as a double-array trie. Nothing here is trusted: the checker holds both tables to
 the patterns by computed tests. Run from the repository's root; prints the nodes that spell a word, for words::kind_of."""
@@ -54,20 +54,17 @@ def cons(xs, width=32):
     return "\n    ∷ ".join(" ∷ ".join(map(str, xs[i : i + width])) for i in range(0, len(xs), width)) + " ∷ []"
 
 
-open("crates/lexer/src/table.rt", "w").write(f"""// The lexer's constant tables, made by tools/lexer_tables.py. Each is held to the patterns by computed tests.
+open("crates/lexer/src/table.rt", "w").write(f"""// The lexer's constant table, made by tools/lexer_tables.py. It is held to the patterns by computed tests.
 
 // The class of each byte: 0 to 7 digits, 8 to 35 letters and `_`, then the dot and the other signs.
-pub const CLASS: [u8; 256] = [
-{array(classes, lambda i: f' // {i:02x}')}];
-
-// The keywords as a double-array trie. A node n and a class k lead to the node WORDS[n] + k if WORDS[256 + that] is n, else nowhere.
-pub const WORDS: [u8; 512] = [
-{array(trie)}];
+// From 256 on the keywords as a double-array trie. A node n and a class k lead to the node LUT[256 + n] + k if LUT[512 + that] is n, else nowhere.
+pub const LUT: [u8; 768] = [
+{array(classes + trie, lambda i: f' // {i:02x}' if i < 256 else '')}];
 """)
-open("crates/token/specs/Tables.antt", "w").write(f"""-- The constant tables of the lexer, and what their entries stand for. Made by tools/lexer_tables.py. Assumes nothing: these are definitions.
+open("crates/token/specs/Tables.antt", "w").write(f"""-- The constant tables of the lexer, and what their entries stand for. Made by tools/lexer_tables.py.
 use Prim.Native.Nat.{{ℕ}}
 use Prim.Native.String.{{String}}
-use mathlib.Core.List.{{List, [], _∷_}}
+use mathlib.Core.List.{{List, [], _∷_, _++_}}
 
 -- the class of each byte
 unfoldable pub classes : List ℕ
@@ -83,6 +80,10 @@ reps =
 unfoldable pub trie : List ℕ
 trie =
     {cons(trie)}
+
+-- what every scan is lent: the classes of the 256 bytes, then the trie
+unfoldable pub tables : List ℕ
+tables = classes ++ trie
 
 -- what each node spells; `-` where there is no node
 unfoldable pub spellings : List String

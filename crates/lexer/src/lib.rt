@@ -6,7 +6,7 @@ pub mod table;
 ghost use mathlib.Core.Path.{_≡_};
 ghost use Prim.Native.Nat.{_<_, _≤_};
 ghost use lib.ListN.{length, drop};
-ghost use Rattle.token.specs.Tables.{classes, trie as nodes};
+ghost use Rattle.token.specs.Tables.{tables};
 ghost use Rattle.utf8.specs.Found.{found};
 ghost use Rattle.lexer.specs.Cuts.{cuts, unrecognized};
 ghost use Rattle.lexer.specs.Location.{Placed};
@@ -61,8 +61,8 @@ fn mark(k: u8, from: Lexer) -> Next
 }
 
 // The next token of the text behind the lexer's offset: rico's create_parser_token.
-pub fn next_token(class: &[u8; 256], trie: &[u8; 512], text: &[u8], lexer: Lexer) -> Next
-    requires { ⌜ (now class ≡ classes) × (now trie ≡ nodes) × (length (now text) ≤ 65536) × Placed lexer ⌝ }
+pub fn next_token(lut: &[u8; 768], text: &[u8], lexer: Lexer) -> Next
+    requires { ⌜ (now lut ≡ tables) × (length (now text) ≤ 65536) × Placed lexer ⌝ }
     ensures { λ r. ⌜ r ≡ next (now (text .entry)) lexer ⌝ }
 {
     let mut from = lexer;
@@ -71,7 +71,7 @@ pub fn next_token(class: &[u8; 256], trie: &[u8; 512], text: &[u8], lexer: Lexer
         if text.len() <= at {
             return Next::End;
         }
-        let k = scan::class_at(class, text, at);
+        let k = scan::class_at(lut, text, at);
         if k == scan::BLANK {
             from = location::behind(from, false);
         } else if scan::is_line_end(k) {
@@ -79,7 +79,7 @@ pub fn next_token(class: &[u8; 256], trie: &[u8; 512], text: &[u8], lexer: Lexer
         } else if scan::MARK <= k {
             return mark(k, from);
         } else {
-            let found = scan::scan_token(class, trie, text, at);
+            let found = scan::scan_token(lut, text, at);
             let Scan::Hit(token, n) = found else {
                 return Next::Unrecognized(from.at);
             };
@@ -96,11 +96,11 @@ pub fn next_token(class: &[u8; 256], trie: &[u8; 512], text: &[u8], lexer: Lexer
 }
 
 // How many bytes at an offset can be passed at once: one of a mark and of blanks, all of any other token; none where no token starts.
-fn extent(class: &[u8; 256], trie: &[u8; 512], text: &[u8], at: usize) -> usize
-    requires { ⌜ (now class ≡ classes) × (now trie ≡ nodes) × (at < length (now text)) ⌝ }
+fn extent(lut: &[u8; 768], text: &[u8], at: usize) -> usize
+    requires { ⌜ (now lut ≡ tables) × (at < length (now text)) ⌝ }
     ensures { λ r. ⌜ Extent (now (text .entry)) at r ⌝ }
 {
-    let k = scan::class_at(class, text, at);
+    let k = scan::class_at(lut, text, at);
     if scan::MARK <= k {
         if k == scan::NONE {
             return 0;
@@ -108,22 +108,22 @@ fn extent(class: &[u8; 256], trie: &[u8; 512], text: &[u8], at: usize) -> usize
         return 1;
     }
     if scan::is_letter(k) {
-        return scan::word_extent(class, text, at);
+        return scan::word_extent(lut, text, at);
     }
-    match scan::scan_token(class, trie, text, at) {
+    match scan::scan_token(lut, text, at) {
         Scan::Hit(_, n) => n,
         Scan::Miss => 0,
     }
 }
 
 // The first offset where no token starts, the text cut from an offset on.
-pub fn unrecognized(class: &[u8; 256], trie: &[u8; 512], text: &[u8], from: usize) -> Found
-    requires { ⌜ (now class ≡ classes) × (now trie ≡ nodes) ⌝ }
+pub fn unrecognized(lut: &[u8; 768], text: &[u8], from: usize) -> Found
+    requires { ⌜ now lut ≡ tables ⌝ }
     ensures { λ r. ⌜ r ≡ found (unrecognized (cuts (drop from (now (text .entry)))) from) ⌝ }
 {
     let mut at = from;
     while at < text.len() {
-        let n = extent(class, trie, text, at);
+        let n = extent(lut, text, at);
         if n == 0 {
             return Found::At(at);
         }
@@ -142,9 +142,8 @@ pub fn check(text: &[u8]) -> Checked
     if let Found::At(at) = utf8::ill_formed(text) {
         return Checked::IllFormed(at);
     }
-    let class = table::CLASS;
-    let trie = table::WORDS;
-    match unrecognized(&class, &trie, text, 0) {
+    let lut = table::LUT;
+    match unrecognized(&lut, text, 0) {
         Found::At(at) => Checked::Unrecognized(at),
         Found::Nowhere => Checked::Fine,
     }

@@ -1,7 +1,8 @@
-// The lexer's constant tables, made by tools/lexer_tables.py. Each is held to the patterns by computed tests.
+// The lexer's constant table, made by tools/lexer_tables.py. It is held to the patterns by computed tests.
 
 // The class of each byte: 0 to 7 digits, 8 to 35 letters and `_`, then the dot and the other signs.
-pub const CLASS: [u8; 256] = [
+// From 256 on the keywords as a double-array trie. A node n and a class k lead to the node LUT[256 + n] + k if LUT[512 + that] is n, else nowhere.
+pub const LUT: [u8; 768] = [
     58, // 00
     58, // 01
     58, // 02
@@ -258,10 +259,6 @@ pub const CLASS: [u8; 256] = [
     58, // fd
     58, // fe
     58, // ff
-];
-
-// The keywords as a double-array trie. A node n and a class k lead to the node WORDS[n] + k if WORDS[256 + that] is n, else nowhere.
-pub const WORDS: [u8; 512] = [
     0,
     0,
     0,

@@ -8,7 +8,7 @@ use token::Token;
 ghost use mathlib.Core.Path.{_≡_};
 ghost use Prim.Native.Nat.{_+_, _<_, _≤_};
 ghost use lib.ListN.{length};
-ghost use Rattle.token.specs.Tables.{classes, trie as nodes};
+ghost use Rattle.token.specs.Tables.{tables};
 ghost use Rattle.token.specs.Scan.{scan};
 ghost use Rattle.token.specs.declared.Token.the-variants as T;
 ghost use Rattle.lexer.specs.Location.{Placed, spanOf, opening};
@@ -27,11 +27,11 @@ fn least(a: usize, b: usize) -> usize
 }
 
 // What a text starts with, at most so many bytes; a byte that starts no token ends no line.
-fn first(class: &[u8; 256], trie: &[u8; 512], text: &[u8], most: usize) -> Piece
-    requires { ⌜ (now class ≡ classes) × (now trie ≡ nodes) ⌝ }
+fn first(lut: &[u8; 768], text: &[u8], most: usize) -> Piece
+    requires { ⌜ now lut ≡ tables ⌝ }
     ensures { λ r. ⌜ (r .token ≡ kindOf (scan (now (text .entry)))) × (r .length ≡ least (lengthOf (scan (now (text .entry)))) most) ⌝ }
 {
-    let found = scan::scan_token(class, trie, text, 0);
+    let found = scan::scan_token(lut, text, 0);
     let Scan::Hit(token, n) = found else {
         return Piece {
             token: Token::Blank,
@@ -45,19 +45,19 @@ fn first(class: &[u8; 256], trie: &[u8; 512], text: &[u8], most: usize) -> Piece
 }
 
 // The lexer behind the first token of the text that lies ahead, passing at most so many bytes.
-fn pass_first(class: &[u8; 256], trie: &[u8; 512], text: &[u8], most: usize, from: Lexer) -> Lexer
-    requires { ⌜ (now class ≡ classes) × (now trie ≡ nodes) × (0 < most) × (most ≤ length (now text)) × Placed from × (from .at + most ≤ 65536) ⌝ }
+fn pass_first(lut: &[u8; 768], text: &[u8], most: usize, from: Lexer) -> Lexer
+    requires { ⌜ (now lut ≡ tables) × (0 < most) × (most ≤ length (now text)) × Placed from × (from .at + most ≤ 65536) ⌝ }
     ensures { λ r. ⌜ r ≡ step (now (text .entry)) most from ⌝ }
 {
-    let piece = first(class, trie, text, most);
+    let piece = first(lut, text, most);
     let token = piece.token;
     let n = piece.length;
     location::pass_lexeme(token, &text[..n], from)
 }
 
 // The place at an offset, which may lie in a token.
-fn reached(class: &[u8; 256], trie: &[u8; 512], text: &[u8], place: usize) -> Span
-    requires { ⌜ (now class ≡ classes) × (now trie ≡ nodes) × (place ≤ length (now text)) × (place ≤ 65536) ⌝ }
+fn reached(lut: &[u8; 768], text: &[u8], place: usize) -> Span
+    requires { ⌜ (now lut ≡ tables) × (place ≤ length (now text)) × (place ≤ 65536) ⌝ }
     ensures { λ r. ⌜ r ≡ spanOf (walk (now (text .entry)) T.Blank 0 place opening) ⌝ }
 {
     let mut from = Lexer::new();
@@ -66,7 +66,7 @@ fn reached(class: &[u8; 256], trie: &[u8; 512], text: &[u8], place: usize) -> Sp
         if place <= at {
             return from.span();
         }
-        from = pass_first(class, trie, &text[at..], place - at, from);
+        from = pass_first(lut, &text[at..], place - at, from);
     }
 }
 
@@ -74,8 +74,7 @@ fn reached(class: &[u8; 256], trie: &[u8; 512], text: &[u8], place: usize) -> Sp
 pub fn find(text: &[u8], offset: u32) -> Span
     ensures { λ r. ⌜ r ≡ placeOf (now (text .entry)) offset ⌝ }
 {
-    let class = table::CLASS;
-    let trie = table::WORDS;
+    let lut = table::LUT;
     let end = least(text.len(), lexer::LIMIT);
-    reached(&class, &trie, text, least(offset as usize, end))
+    reached(&lut, text, least(offset as usize, end))
 }

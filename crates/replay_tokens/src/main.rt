@@ -14,7 +14,7 @@ use libc::STDOUT_FILENO;
 ghost use mathlib.Core.Path.{_≡_};
 ghost use Prim.Native.Nat.{_+_, _≤_};
 ghost use lib.ListN.{length};
-ghost use Rattle.token.specs.Tables.{classes, trie as nodes};
+ghost use Rattle.token.specs.Tables.{tables};
 ghost use Rattle.replay_tokens.specs.Inside.{Inside, Found};
 
 // The bytes of a token in the list.
@@ -141,20 +141,13 @@ fn same_end(next: Next, verdict: u32, place: u32) -> bool {
 }
 
 // Whether the tokens of a text are those of the rows, and end as the verdict says.
-fn same_tokens(
-    class: &[u8; 256],
-    trie: &[u8; 512],
-    text: &[u8],
-    rows: &[u8],
-    verdict: u32,
-    place: u32,
-) -> bool
-    requires { ⌜ (now class ≡ classes) × (now trie ≡ nodes) × (length (now text) ≤ 65536) ⌝ }
+fn same_tokens(lut: &[u8; 768], text: &[u8], rows: &[u8], verdict: u32, place: u32) -> bool
+    requires { ⌜ (now lut ≡ tables) × (length (now text) ≤ 65536) ⌝ }
 {
     let mut from = Lexer::new();
     let mut at: usize = 0;
     while ROW <= rows.len() - at {
-        let next = lexer::next_token(class, trie, text, from);
+        let next = lexer::next_token(lut, text, from);
         let Next::On(token, behind) = next else {
             return false;
         };
@@ -164,16 +157,15 @@ fn same_tokens(
         from = behind;
         at += ROW;
     }
-    same_end(lexer::next_token(class, trie, text, from), verdict, place)
+    same_end(lexer::next_token(lut, text, from), verdict, place)
 }
 
-// The same with the tables.
+// The same with the table.
 fn same_cuts(text: &[u8], rows: &[u8], verdict: u32, place: u32) -> bool
     requires { ⌜ length (now text) ≤ 65536 ⌝ }
 {
-    let class = lexer::table::CLASS;
-    let trie = lexer::table::WORDS;
-    same_tokens(&class, &trie, text, rows, verdict, place)
+    let lut = lexer::table::LUT;
+    same_tokens(&lut, text, rows, verdict, place)
 }
 
 // Whether the check of a text answers as the verdict says, and its tokens are rico's. There are no tokens to compare where it is no UTF-8.

@@ -2,16 +2,17 @@
 use mathlib.Core.Path.{_≡_, refl}
 use mathlib.Core.Bool.{Bool, true, false, cond, _||_}
 use mathlib.Core.List.{List, [], _∷_}
-use Prim.Native.Nat.{ℕ, _<_}
+use Prim.Native.Nat.{ℕ, _+_, _<_}
+use native.Mathlib.Omega.{arith}
 use Prim.Native.String.{String}
 use lib.Dec.{T, eqb, ltb, ltb→lt}
 use lib.ListN.{length, getD, take}
 use lib.Seq.{getD-take}
 use Rattle.token.specs.Regex.{bytes}
 use Rattle.token.specs.Patterns.{Word, word, token, words}
-use Rattle.token.specs.Tables.{classes, trie, spellings}
+use Rattle.token.specs.Tables.{classes, trie, tables, spellings}
 use Rattle.token.specs.Automaton.{openings, whole-byte, opened}
-use Rattle.token.specs.Words.{same, lookup, strip, stripAll, spelling, wordsAt, kindOf}
+use Rattle.token.specs.Words.{same, lookup, strip, stripAll, spelling, wordsAt, child, kindOf}
 use Rattle.token.specs.declared.Token.{Token}
 use Rattle.token.specs.declared.Token.the-variants as T
 use Rattle.token.specs.declared.Scan.{Scan}
@@ -19,6 +20,7 @@ use Rattle.token.specs.declared.Scan.the-variants.{Miss, Hit}
 use Rattle.token.proofs.Every.{every, at}
 use Rattle.token.proofs.Classes.{classes-length}
 use Rattle.token.proofs.Trie.{spellings-length}
+use Rattle.token.proofs.Tables.{trie-entry}
 
 abbrev pub elem : ℕ → List ℕ → Bool
 elem n [] = false
@@ -90,6 +92,17 @@ trie-length : length (take 256 trie) ≡ 256
 unfolding trie
 trie-length = refl
 
-pub base-small : (n : ℕ) → n < 256 → getD trie n 0 < 220
+base-small : (n : ℕ) → n < 256 → getD trie n 0 < 220
 unfolding small
 base-small n h = rw (getD-take 256 trie n 0 h) at (ltb→lt (getD (take 256 trie) n 0) 220 (at small (take 256 trie) 0 small-test n (rw trie-length h)))
+
+-- the same in the table that is lent
+pub lent-small : (n : ℕ) → n < 256 → getD tables (256 + n) 0 < 220
+lent-small n h = rw (trie-entry n) (base-small n h)
+
+owner : (t : ℕ) → getD tables (512 + t) 0 ≡ getD trie (256 + t) 0
+owner t = let e : 512 + t ≡ 256 + (256 + t) = omega arith in rw e (trie-entry (256 + t))
+
+pub lent-child : (n k : ℕ) → child n k ≡ (let t = getD tables (256 + n) 0 + k in cond (eqb (getD tables (512 + t) 0) n) t 0)
+unfolding child
+lent-child n k = rw (trie-entry n, owner (getD trie n 0 + k))

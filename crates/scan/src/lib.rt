@@ -8,7 +8,7 @@ ghost use mathlib.Core.Bool.{_&&_, _||_};
 ghost use lib.Dec.{eqb, leb, ltb};
 ghost use Prim.Native.Nat.{_+_, _<_, _≤_};
 ghost use lib.ListN.{length, drop, getD};
-ghost use Rattle.token.specs.Tables.{classes, trie as nodes};
+ghost use Rattle.token.specs.Tables.{tables};
 ghost use Rattle.token.specs.Scan.{scan};
 ghost use Rattle.token.specs.Run.{classOf, before};
 ghost use Rattle.token.specs.Automaton.{State, Reached, longest, opened, quote, stop};
@@ -74,21 +74,21 @@ pub fn is_letter(k: u8) -> bool
 }
 
 // The class of a byte of the text.
-pub fn class_at(class: &[u8; 256], text: &[u8], i: usize) -> u8
-    requires { ⌜ (now class ≡ classes) × (i < length (now text)) ⌝ }
+pub fn class_at(lut: &[u8; 768], text: &[u8], i: usize) -> u8
+    requires { ⌜ (now lut ≡ tables) × (i < length (now text)) ⌝ }
     ensures { λ r. ⌜ r ≡ classOf (getD (now (text .entry)) i 0) ⌝ }
 {
-    class[text[i] as usize]
+    lut[text[i] as usize]
 }
 
 // The first place from `at` on whose byte has a class from `from` on and below `to`; the end if there is none.
-fn run(class: &[u8; 256], text: &[u8], at: usize, from: u8, to: u8) -> usize
-    requires { ⌜ (now class ≡ classes) × (at ≤ length (now text)) ⌝ }
+fn run(lut: &[u8; 768], text: &[u8], at: usize, from: u8, to: u8) -> usize
+    requires { ⌜ (now lut ≡ tables) × (at ≤ length (now text)) ⌝ }
     ensures { λ r. ⌜ r ≡ at + before from to (drop at (now (text .entry))) ⌝ }
 {
     let mut i = at;
     while i < text.len() {
-        let k = class_at(class, text, i);
+        let k = class_at(lut, text, i);
         if from <= k {
             if k < to {
                 return i;
@@ -100,13 +100,13 @@ fn run(class: &[u8; 256], text: &[u8], at: usize, from: u8, to: u8) -> usize
 }
 
 // The first place from `at` on whose byte has a class from `from` on; the end if there is none.
-fn run_above(class: &[u8; 256], text: &[u8], at: usize, from: u8) -> usize
-    requires { ⌜ (now class ≡ classes) × (at ≤ length (now text)) ⌝ }
+fn run_above(lut: &[u8; 768], text: &[u8], at: usize, from: u8) -> usize
+    requires { ⌜ (now lut ≡ tables) × (at ≤ length (now text)) ⌝ }
     ensures { λ r. ⌜ r ≡ at + before from 60 (drop at (now (text .entry))) ⌝ }
 {
     let mut i = at;
     while i < text.len() {
-        if from <= class[text[i] as usize] {
+        if from <= class_at(lut, text, i) {
             return i;
         }
         i += 1;
@@ -130,117 +130,117 @@ fn find(text: &[u8], at: usize, byte: u8) -> usize
 }
 
 // The number whose exponent's digits are to start at `at`; without one it ends at `end` as `kind`.
-fn exponent_digits(class: &[u8; 256], text: &[u8], at: usize, end: usize, kind: Token) -> Scan
-    requires { ⌜ (now class ≡ classes) × Reached (now text) State.exponentSign at (Hit kind end) ⌝ }
+fn exponent_digits(lut: &[u8; 768], text: &[u8], at: usize, end: usize, kind: Token) -> Scan
+    requires { ⌜ (now lut ≡ tables) × Reached (now text) State.exponentSign at (Hit kind end) ⌝ }
     ensures { λ r. ⌜ r ≡ longest (now (text .entry)) ⌝ }
 {
     if text.len() <= at {
         return Scan::Hit(kind, end);
     }
-    if class_at(class, text, at) < E {
-        return Scan::Hit(Token::DoubleLiteral, run_above(class, text, at + 1, E));
+    if class_at(lut, text, at) < E {
+        return Scan::Hit(Token::DoubleLiteral, run_above(lut, text, at + 1, E));
     }
     Scan::Hit(kind, end)
 }
 
 // The number whose `e` stands at `end`, where it ends as `kind` if no exponent follows.
-fn exponent_of(class: &[u8; 256], text: &[u8], end: usize, kind: Token) -> Scan
-    requires { ⌜ (now class ≡ classes) × Reached (now text) State.exponentMark (end + 1) (Hit kind end) ⌝ }
+fn exponent_of(lut: &[u8; 768], text: &[u8], end: usize, kind: Token) -> Scan
+    requires { ⌜ (now lut ≡ tables) × Reached (now text) State.exponentMark (end + 1) (Hit kind end) ⌝ }
     ensures { λ r. ⌜ r ≡ longest (now (text .entry)) ⌝ }
 {
     let at = end + 1;
     if text.len() <= at {
         return Scan::Hit(kind, end);
     }
-    if class_at(class, text, at) == SIGN {
-        return exponent_digits(class, text, at + 1, end, kind);
+    if class_at(lut, text, at) == SIGN {
+        return exponent_digits(lut, text, at + 1, end, kind);
     }
-    exponent_digits(class, text, at, end, kind)
+    exponent_digits(lut, text, at, end, kind)
 }
 
 // The number whose digits behind the point go on at `at`.
-fn fraction_of(class: &[u8; 256], text: &[u8], at: usize) -> Scan
-    requires { ⌜ (now class ≡ classes) × Reached (now text) State.fraction at (Hit T.DoubleLiteral at) ⌝ }
+fn fraction_of(lut: &[u8; 768], text: &[u8], at: usize) -> Scan
+    requires { ⌜ (now lut ≡ tables) × Reached (now text) State.fraction at (Hit T.DoubleLiteral at) ⌝ }
     ensures { λ r. ⌜ r ≡ longest (now (text .entry)) ⌝ }
 {
-    let end = run_above(class, text, at, E);
+    let end = run_above(lut, text, at, E);
     if text.len() <= end {
         return Scan::Hit(Token::DoubleLiteral, end);
     }
-    if class_at(class, text, end) < HEX {
-        return exponent_of(class, text, end, Token::DoubleLiteral);
+    if class_at(lut, text, end) < HEX {
+        return exponent_of(lut, text, end, Token::DoubleLiteral);
     }
     Scan::Hit(Token::DoubleLiteral, end)
 }
 
 // The number whose digits go on at `at`.
-fn whole_of(class: &[u8; 256], text: &[u8], at: usize) -> Scan
-    requires { ⌜ (now class ≡ classes) × Reached (now text) State.whole at (Hit T.IntegerLiteral at) ⌝ }
+fn whole_of(lut: &[u8; 768], text: &[u8], at: usize) -> Scan
+    requires { ⌜ (now lut ≡ tables) × Reached (now text) State.whole at (Hit T.IntegerLiteral at) ⌝ }
     ensures { λ r. ⌜ r ≡ longest (now (text .entry)) ⌝ }
 {
-    let end = run_above(class, text, at, E);
+    let end = run_above(lut, text, at, E);
     if text.len() <= end {
         return Scan::Hit(Token::IntegerLiteral, end);
     }
-    let k = class_at(class, text, end);
+    let k = class_at(lut, text, end);
     if k < HEX {
-        return exponent_of(class, text, end, Token::IntegerLiteral);
+        return exponent_of(lut, text, end, Token::IntegerLiteral);
     }
     if k == DOT {
-        return fraction_of(class, text, end + 1);
+        return fraction_of(lut, text, end + 1);
     }
     Scan::Hit(Token::IntegerLiteral, end)
 }
 
 // The number that starts with 0.
-fn zero_of(class: &[u8; 256], text: &[u8]) -> Scan
-    requires { ⌜ (now class ≡ classes) × Reached (now text) State.zero 1 (Hit T.IntegerLiteral 1) ⌝ }
+fn zero_of(lut: &[u8; 768], text: &[u8]) -> Scan
+    requires { ⌜ (now lut ≡ tables) × Reached (now text) State.zero 1 (Hit T.IntegerLiteral 1) ⌝ }
     ensures { λ r. ⌜ r ≡ longest (now (text .entry)) ⌝ }
 {
     if text.len() <= 1 {
         return Scan::Hit(Token::IntegerLiteral, 1);
     }
-    let k = class_at(class, text, 1);
+    let k = class_at(lut, text, 1);
     if k < X {
-        return whole_of(class, text, 1);
+        return whole_of(lut, text, 1);
     }
     if NO_X <= k {
-        return whole_of(class, text, 1);
+        return whole_of(lut, text, 1);
     }
     if text.len() <= 2 {
         return Scan::Hit(Token::IntegerLiteral, 1);
     }
-    if class_at(class, text, 2) < X {
-        return Scan::Hit(Token::HexLiteral, run_above(class, text, 3, X));
+    if class_at(lut, text, 2) < X {
+        return Scan::Hit(Token::HexLiteral, run_above(lut, text, 3, X));
     }
     Scan::Hit(Token::IntegerLiteral, 1)
 }
 
 // The token that starts with a dot.
-fn dot_of(class: &[u8; 256], text: &[u8]) -> Scan
-    requires { ⌜ (now class ≡ classes) × Reached (now text) State.dot 1 (Hit T.Dot 1) ⌝ }
+fn dot_of(lut: &[u8; 768], text: &[u8]) -> Scan
+    requires { ⌜ (now lut ≡ tables) × Reached (now text) State.dot 1 (Hit T.Dot 1) ⌝ }
     ensures { λ r. ⌜ r ≡ longest (now (text .entry)) ⌝ }
 {
     if text.len() <= 1 {
         return Scan::Hit(Token::Dot, 1);
     }
-    if class_at(class, text, 1) < E {
-        return fraction_of(class, text, 2);
+    if class_at(lut, text, 1) < E {
+        return fraction_of(lut, text, 2);
     }
     Scan::Hit(Token::Dot, 1)
 }
 
 // The number that starts with a sign.
-fn signed_of(class: &[u8; 256], text: &[u8]) -> Scan
-    requires { ⌜ (now class ≡ classes) × Reached (now text) State.signed 1 Miss ⌝ }
+fn signed_of(lut: &[u8; 768], text: &[u8]) -> Scan
+    requires { ⌜ (now lut ≡ tables) × Reached (now text) State.signed 1 Miss ⌝ }
     ensures { λ r. ⌜ r ≡ longest (now (text .entry)) ⌝ }
 {
     if text.len() <= 1 {
         return Scan::Miss;
     }
-    let k = class_at(class, text, 1);
+    let k = class_at(lut, text, 1);
     if k < E {
-        return whole_of(class, text, 2);
+        return whole_of(lut, text, 2);
     }
     if k != DOT {
         return Scan::Miss;
@@ -248,8 +248,8 @@ fn signed_of(class: &[u8; 256], text: &[u8]) -> Scan
     if text.len() <= 2 {
         return Scan::Miss;
     }
-    if class_at(class, text, 2) < E {
-        return fraction_of(class, text, 3);
+    if class_at(lut, text, 2) < E {
+        return fraction_of(lut, text, 3);
     }
     Scan::Miss
 }
@@ -268,25 +268,25 @@ fn stop_of(double: bool) -> u8
 }
 
 // The string that starts with `"` or `'`.
-fn string_of(class: &[u8; 256], text: &[u8], double: bool) -> Scan
-    requires { ⌜ (now class ≡ classes) × Reached (now text) (State.inString double) 1 Miss ⌝ }
+fn string_of(lut: &[u8; 768], text: &[u8], double: bool) -> Scan
+    requires { ⌜ (now lut ≡ tables) × Reached (now text) (State.inString double) 1 Miss ⌝ }
     ensures { λ r. ⌜ r ≡ longest (now (text .entry)) ⌝ }
 {
     let quote = quote_of(double);
     let stop = stop_of(double);
     let mut i: usize = 1;
     loop {
-        let j = run(class, text, i, stop, stop + 2);
+        let j = run(lut, text, i, stop, stop + 2);
         if text.len() <= j {
             return Scan::Miss;
         }
-        if class_at(class, text, j) == quote {
+        if class_at(lut, text, j) == quote {
             return Scan::Hit(Token::StringLiteral, j + 1);
         }
         if text.len() <= j + 1 {
             return Scan::Miss;
         }
-        if class_at(class, text, j + 1) == LINE_FEED {
+        if class_at(lut, text, j + 1) == LINE_FEED {
             return Scan::Miss;
         }
         i = j + 2;
@@ -294,8 +294,8 @@ fn string_of(class: &[u8; 256], text: &[u8], double: bool) -> Scan
 }
 
 // The block comment, its `/*` read.
-fn block_of(class: &[u8; 256], text: &[u8]) -> Scan
-    requires { ⌜ (now class ≡ classes) × Reached (now text) State.block 2 Miss ⌝ }
+fn block_of(lut: &[u8; 768], text: &[u8]) -> Scan
+    requires { ⌜ (now lut ≡ tables) × Reached (now text) State.block 2 Miss ⌝ }
     ensures { λ r. ⌜ r ≡ longest (now (text .entry)) ⌝ }
 {
     let mut i: usize = 2;
@@ -307,7 +307,7 @@ fn block_of(class: &[u8; 256], text: &[u8]) -> Scan
         if text.len() <= j + 1 {
             return Scan::Miss;
         }
-        if class_at(class, text, j + 1) == SLASH {
+        if class_at(lut, text, j + 1) == SLASH {
             return Scan::Hit(Token::BlockComment, j + 2);
         }
         i = j + 1;
@@ -315,101 +315,101 @@ fn block_of(class: &[u8; 256], text: &[u8]) -> Scan
 }
 
 // The comment that starts with a slash.
-fn slash_of(class: &[u8; 256], text: &[u8]) -> Scan
-    requires { ⌜ (now class ≡ classes) × Reached (now text) State.slash 1 Miss ⌝ }
+fn slash_of(lut: &[u8; 768], text: &[u8]) -> Scan
+    requires { ⌜ (now lut ≡ tables) × Reached (now text) State.slash 1 Miss ⌝ }
     ensures { λ r. ⌜ r ≡ longest (now (text .entry)) ⌝ }
 {
     if text.len() <= 1 {
         return Scan::Miss;
     }
-    let k = class_at(class, text, 1);
+    let k = class_at(lut, text, 1);
     if k == SLASH {
         return Scan::Hit(Token::LineComment, find(text, 2, b'\n'));
     }
     if k == STAR {
-        return block_of(class, text);
+        return block_of(lut, text);
     }
     Scan::Miss
 }
 
 // Where the identifier that goes on at `at` ends, a keyword or not.
-fn name_end(class: &[u8; 256], text: &[u8], at: usize) -> usize
-    requires { ⌜ (now class ≡ classes) × Reached (now text) State.named at (Hit T.Identifier at) ⌝ }
+fn name_end(lut: &[u8; 768], text: &[u8], at: usize) -> usize
+    requires { ⌜ (now lut ≡ tables) × Reached (now text) State.named at (Hit T.Identifier at) ⌝ }
     ensures { λ r. ⌜ (longest (now (text .entry)) ≡ Hit T.Identifier r) × (at ≤ r) ⌝ }
 {
-    let mut i = run_above(class, text, at, DOT);
+    let mut i = run_above(lut, text, at, DOT);
     while i < text.len() {
-        if class_at(class, text, i) != DOT {
+        if class_at(lut, text, i) != DOT {
             return i;
         }
         if text.len() <= i + 1 {
             return i;
         }
-        let k = class_at(class, text, i + 1);
+        let k = class_at(lut, text, i + 1);
         if k < E {
             return i;
         }
         if DOT <= k {
             return i;
         }
-        i = run_above(class, text, i + 2, DOT);
+        i = run_above(lut, text, i + 2, DOT);
     }
     i
 }
 
 // The identifier that goes on at `at` and is no keyword.
-fn name_of(class: &[u8; 256], text: &[u8], at: usize) -> Scan
-    requires { ⌜ (now class ≡ classes) × Reached (now text) State.named at (Hit T.Identifier at) × NoWord (now text) at ⌝ }
+fn name_of(lut: &[u8; 768], text: &[u8], at: usize) -> Scan
+    requires { ⌜ (now lut ≡ tables) × Reached (now text) State.named at (Hit T.Identifier at) × NoWord (now text) at ⌝ }
     ensures { λ r. ⌜ r ≡ scan (now (text .entry)) ⌝ }
 {
-    Scan::Hit(Token::Identifier, name_end(class, text, at))
+    Scan::Hit(Token::Identifier, name_end(lut, text, at))
 }
 
 // How long the word at an offset is, a keyword or not; a letter stands there.
-pub fn word_extent(class: &[u8; 256], text: &[u8], at: usize) -> usize
-    requires { ⌜ (now class ≡ classes) × (at < length (now text)) × (8 ≤ classOf (getD (now text) at 0)) × (classOf (getD (now text) at 0) < 36) ⌝ }
+pub fn word_extent(lut: &[u8; 768], text: &[u8], at: usize) -> usize
+    requires { ⌜ (now lut ≡ tables) × (at < length (now text)) × (8 ≤ classOf (getD (now text) at 0)) × (classOf (getD (now text) at 0) < 36) ⌝ }
     ensures { λ r. ⌜ longest (drop at (now (text .entry))) ≡ Hit T.Identifier r ⌝ }
 {
-    name_end(class, &text[at..], 1)
+    name_end(lut, &text[at..], 1)
 }
 
 // The word whose first piece ends at `i` in the node `node` of the trie: an identifier if a dot and a letter follow.
-fn word_end(class: &[u8; 256], text: &[u8], i: usize, node: u8) -> Scan
-    requires { ⌜ (now class ≡ classes) × (i < length (now text)) × (36 ≤ classOf (getD (now text) i 0)) × Reached (now text) State.named i (Hit T.Identifier i) × Spelled (now text) i node ⌝ }
+fn word_end(lut: &[u8; 768], text: &[u8], i: usize, node: u8) -> Scan
+    requires { ⌜ (now lut ≡ tables) × (i < length (now text)) × (36 ≤ classOf (getD (now text) i 0)) × Reached (now text) State.named i (Hit T.Identifier i) × Spelled (now text) i node ⌝ }
     ensures { λ r. ⌜ r ≡ scan (now (text .entry)) ⌝ }
 {
-    if class_at(class, text, i) != DOT {
+    if class_at(lut, text, i) != DOT {
         return Scan::Hit(words::kind_of(node), i);
     }
     if text.len() <= i + 1 {
         return Scan::Hit(words::kind_of(node), i);
     }
-    let k = class_at(class, text, i + 1);
+    let k = class_at(lut, text, i + 1);
     if k < E {
         return Scan::Hit(words::kind_of(node), i);
     }
     if DOT <= k {
         return Scan::Hit(words::kind_of(node), i);
     }
-    name_of(class, text, i + 2)
+    name_of(lut, text, i + 2)
 }
 
 // The identifier or keyword that starts with a letter of the class `first`: a keyword is told on the way, by the node of the trie that its letters lead to.
-fn word_of(class: &[u8; 256], trie: &[u8; 512], text: &[u8], first: u8) -> Scan
-    requires { ⌜ (now class ≡ classes) × (now trie ≡ nodes) × (0 < length (now text)) × (first ≡ classOf (getD (now text) 0 0)) × (8 ≤ first) × (first < 36) × Reached (now text) State.start 0 Miss ⌝ }
+fn word_of(lut: &[u8; 768], text: &[u8], first: u8) -> Scan
+    requires { ⌜ (now lut ≡ tables) × (0 < length (now text)) × (first ≡ classOf (getD (now text) 0 0)) × (8 ≤ first) × (first < 36) × Reached (now text) State.start 0 Miss ⌝ }
     ensures { λ r. ⌜ r ≡ scan (now (text .entry)) ⌝ }
 {
-    let mut node = words::child(trie, words::ROOT, first);
+    let mut node = words::child(lut, words::ROOT, first);
     let mut i: usize = 1;
     while i < text.len() {
         if node == 0 {
-            return name_of(class, text, i);
+            return name_of(lut, text, i);
         }
-        let k = class_at(class, text, i);
+        let k = class_at(lut, text, i);
         if DOT <= k {
-            return word_end(class, text, i, node);
+            return word_end(lut, text, i, node);
         }
-        node = words::child(trie, node, k);
+        node = words::child(lut, node, k);
         i += 1;
     }
     Scan::Hit(words::kind_of(node), i)
@@ -440,59 +440,59 @@ pub fn mark_of(k: u8) -> Scan
 }
 
 // The token that starts with a byte of the class k, which is no letter and no digit.
-fn sign_of(class: &[u8; 256], text: &[u8], k: u8) -> Scan
-    requires { ⌜ (now class ≡ classes) × (0 < length (now text)) × (k ≡ classOf (getD (now text) 0 0)) × (36 ≤ k) × Reached (now text) State.start 0 Miss ⌝ }
+fn sign_of(lut: &[u8; 768], text: &[u8], k: u8) -> Scan
+    requires { ⌜ (now lut ≡ tables) × (0 < length (now text)) × (k ≡ classOf (getD (now text) 0 0)) × (36 ≤ k) × Reached (now text) State.start 0 Miss ⌝ }
     ensures { λ r. ⌜ r ≡ longest (now (text .entry)) ⌝ }
 {
     if k == BLANK {
-        return Scan::Hit(Token::Blank, run(class, text, 1, 0, BLANK));
+        return Scan::Hit(Token::Blank, run(lut, text, 1, 0, BLANK));
     }
     if k == DOUBLE_QUOTE {
-        return string_of(class, text, true);
+        return string_of(lut, text, true);
     }
     if k == SINGLE_QUOTE {
-        return string_of(class, text, false);
+        return string_of(lut, text, false);
     }
     if k == HASH {
         return Scan::Hit(Token::LineComment, find(text, 1, b'\n'));
     }
     if k == SLASH {
-        return slash_of(class, text);
+        return slash_of(lut, text);
     }
     if k == SIGN {
-        return signed_of(class, text);
+        return signed_of(lut, text);
     }
     if k == DOT {
-        return dot_of(class, text);
+        return dot_of(lut, text);
     }
     mark_of(k)
 }
 
 // The token that starts a text.
-fn token_of(class: &[u8; 256], trie: &[u8; 512], text: &[u8]) -> Scan
-    requires { ⌜ (now class ≡ classes) × (now trie ≡ nodes) ⌝ }
+fn token_of(lut: &[u8; 768], text: &[u8]) -> Scan
+    requires { ⌜ now lut ≡ tables ⌝ }
     ensures { λ r. ⌜ r ≡ scan (now (text .entry)) ⌝ }
 {
     if text.len() == 0 {
         return Scan::Miss;
     }
-    let k = class_at(class, text, 0);
+    let k = class_at(lut, text, 0);
     if DOT <= k {
-        return sign_of(class, text, k);
+        return sign_of(lut, text, k);
     }
     if E <= k {
-        return word_of(class, trie, text, k);
+        return word_of(lut, text, k);
     }
     if k == 0 {
-        return zero_of(class, text);
+        return zero_of(lut, text);
     }
-    whole_of(class, text, 1)
+    whole_of(lut, text, 1)
 }
 
 // The token at an offset: the part of the text from there on is handed on.
-pub fn scan_token(class: &[u8; 256], trie: &[u8; 512], text: &[u8], at: usize) -> Scan
-    requires { ⌜ (now class ≡ classes) × (now trie ≡ nodes) × (at ≤ length (now text)) ⌝ }
+pub fn scan_token(lut: &[u8; 768], text: &[u8], at: usize) -> Scan
+    requires { ⌜ (now lut ≡ tables) × (at ≤ length (now text)) ⌝ }
     ensures { λ r. ⌜ r ≡ scan (drop at (now (text .entry))) ⌝ }
 {
-    token_of(class, trie, &text[at..])
+    token_of(lut, &text[at..])
 }

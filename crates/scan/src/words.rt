@@ -2,19 +2,19 @@
 use token::Token;
 ghost use mathlib.Core.Path.{_≡_};
 ghost use Prim.Native.Nat.{_<_};
-ghost use Rattle.token.specs.Tables.{trie as nodes};
+ghost use Rattle.token.specs.Tables.{tables};
 ghost use Rattle.token.specs.Words.{child, kindOf};
 
 // The node of the empty word.
 pub const ROOT: u8 = 1;
 
 // The node behind a byte of the class k; 0 where no keyword goes on.
-pub fn child(trie: &[u8; 512], node: u8, k: u8) -> u8
-    requires { ⌜ (now trie ≡ nodes) × (k < 36) ⌝ }
+pub fn child(lut: &[u8; 768], node: u8, k: u8) -> u8
+    requires { ⌜ (now lut ≡ tables) × (k < 36) ⌝ }
     ensures { λ r. ⌜ r ≡ child node k ⌝ }
 {
-    let t = trie[node as usize] as usize + k as usize;
-    if trie[256 + t] == node { t as u8 } else { 0 }
+    let t = lut[256 + node as usize] as usize + k as usize;
+    if lut[512 + t] == node { t as u8 } else { 0 }
 }
 
 // The kind of the word that a node spells.

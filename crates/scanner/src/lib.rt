@@ -1,6 +1,6 @@
 // The thin reader: it keeps a text with its offset, and gives one token a call.
 ghost use mathlib.Core.Path.{_≡_};
-ghost use Rattle.token.specs.Tables.{classes, trie as nodes};
+ghost use Rattle.token.specs.Tables.{tables};
 ghost use Rattle.scanner.specs.Piece.{pieceAt};
 ghost use Rattle.scanner.specs.Reader.{opened, read, behind};
 use lexer::table;
@@ -30,13 +30,13 @@ pub struct Piece {
 }
 
 // The first piece of the text from `at` on, one scan after the other.
-fn piece_by(class: &[u8; 256], trie: &[u8; 512], text: &[u8], at: usize) -> Piece
-    requires { ⌜ (now class ≡ classes) × (now trie ≡ nodes) ⌝ }
+fn piece_by(lut: &[u8; 768], text: &[u8], at: usize) -> Piece
+    requires { ⌜ now lut ≡ tables ⌝ }
     ensures { λ r. ⌜ r ≡ pieceAt (now (text .entry)) at ⌝ }
 {
     let mut from = at;
     while from < text.len() {
-        let found = scan::scan_token(class, trie, text, from);
+        let found = scan::scan_token(lut, text, from);
         let Scan::Hit(token, n) = found else {
             return Piece {
                 what: What::Unrecognized,
@@ -62,13 +62,12 @@ fn piece_by(class: &[u8; 256], trie: &[u8; 512], text: &[u8], at: usize) -> Piec
     }
 }
 
-// The same by the lexer's own tables.
+// The same by the lexer's own table.
 fn piece_at(text: &[u8], at: usize) -> Piece
     ensures { λ r. ⌜ r ≡ pieceAt (now (text .entry)) at ⌝ }
 {
-    let class = table::CLASS;
-    let trie = table::WORDS;
-    piece_by(&class, &trie, text, at)
+    let lut = table::LUT;
+    piece_by(&lut, text, at)
 }
 
 impl<'a> Reader<'a> {

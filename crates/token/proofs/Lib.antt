@@ -7,6 +7,7 @@ pub mod Classes
 pub mod Reach
 pub mod Words
 pub mod Trie
+pub mod Tables
 pub mod Matching
 pub mod Meaning
 pub mod Stable

@@ -10,7 +10,7 @@ use libc::STDOUT_FILENO;
 ghost use mathlib.Core.Path.{_≡_};
 ghost use Prim.Native.Nat.{_+_, _≤_};
 ghost use lib.ListN.{length};
-ghost use Rattle.token.specs.Tables.{classes, trie as nodes};
+ghost use Rattle.token.specs.Tables.{tables};
 
 // Puts a byte at `at`, and answers the place behind it.
 fn put_byte(line: &mut [u8], at: usize, byte: u8) -> usize
@@ -87,12 +87,12 @@ fn write_refusal(number: u32, place: usize) {
 }
 
 // Writes the tokens of a text.
-fn write_tokens(class: &[u8; 256], trie: &[u8; 512], text: &[u8])
-    requires { ⌜ (now class ≡ classes) × (now trie ≡ nodes) × (length (now text) ≤ 65536) ⌝ }
+fn write_tokens(lut: &[u8; 768], text: &[u8])
+    requires { ⌜ (now lut ≡ tables) × (length (now text) ≤ 65536) ⌝ }
 {
     let mut from = Lexer::new();
     loop {
-        let next = lexer::next_token(class, trie, text, from);
+        let next = lexer::next_token(lut, text, from);
         let Next::On(token, behind) = next else {
             return;
         };
@@ -105,9 +105,8 @@ fn write_tokens(class: &[u8; 256], trie: &[u8; 512], text: &[u8])
 fn write_text(text: &[u8]) {
     match lexer::check(text) {
         Checked::Fine => {
-            let class = lexer::table::CLASS;
-            let trie = lexer::table::WORDS;
-            write_tokens(&class, &trie, text);
+            let lut = lexer::table::LUT;
+            write_tokens(&lut, text);
         }
         Checked::TooLong => write_refusal(error::TEXT_TOO_LONG, 0),
         Checked::IllFormed(at) => write_refusal(error::NOT_UTF8, at),

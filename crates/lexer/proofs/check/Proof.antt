@@ -1,7 +1,7 @@
 -- `lexer::check` meets its contract.
 use mathlib.Core.Path.{refl, sym, _∙_}
 use borrow.Author.Needs.{needs}
-use Rattle.token.specs.Tables.{classes, trie}
+use Rattle.token.specs.Tables.{classes, trie, tables}
 use Rattle.lexer.specs.Check.{refusal}
 use Rattle.lexer.proofs.CheckLaws.{too-long, ill, unknown, fine}
 use Rattle.lexer.proofs.check.Statement.{statement}
@@ -18,14 +18,14 @@ returns-2 c =
     sym (ill _ (f .before .if1 .left) _ (sym (f .ill-formed .ensures) ∙ c .before .at .given .1))
 
 unrecognized-requires : tie.Need-unrecognized-requires
-unfolding classes trie
-unrecognized-requires c κs = (refl, refl)
+unfolding tables classes trie
+unrecognized-requires c κs = refl
 
 returns-3 : tie.Need-returns-3
 unfolding refusal
 returns-3 c =
     let u = c .before .before .before in
-    let n = u .before .before .before in
+    let n = u .before .before in
     let f = n .before .before in
     sym (unknown _ (f .before .if1 .left) _ (sym (f .ill-formed .ensures) ∙ n .enum-told .given .1) (sym (u .unrecognized .ensures) ∙ c .before .at2 .given .1))
 
@@ -33,7 +33,7 @@ returns-4 : tie.Need-returns-4
 unfolding refusal
 returns-4 c =
     let u = c .before .before in
-    let n = u .before .before .before in
+    let n = u .before .before in
     let f = n .before .before in
     sym (fine _ (f .before .if1 .left) (sym (f .ill-formed .ensures) ∙ n .enum-told .given .1) (sym (u .unrecognized .ensures) ∙ c .enum-told2 .given .1))
 

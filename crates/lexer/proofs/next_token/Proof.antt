@@ -17,13 +17,13 @@ use Rattle.lexer.proofs.next_token.Statement.{statement}
 use Rattle.lexer.proofs.next_token.Tie as tie
 
 abbrev Inv-loop : tie.InvT-loop
-Inv-loop class trie text from₀ from = Placed from × (next text from₀ ≡ next text from)
+Inv-loop lut text from₀ from = Placed from × (next text from₀ ≡ next text from)
 
 abbrev μ-loop : tie.MeasureT-loop
-μ-loop class trie text from₀ from = length text - from .at
+μ-loop lut text from₀ from = length text - from .at
 
 loop-holds : tie.Need-loop-holds Inv-loop μ-loop
-loop-holds c = (c .before .pre .3, refl)
+loop-holds c = (c .before .pre .2, refl)
 
 returns : tie.Need-returns Inv-loop μ-loop
 returns c =
@@ -34,7 +34,7 @@ class-at-requires : tie.Need-class-at-requires Inv-loop μ-loop
 class-at-requires c κs = let a = c .before .before .before .before in (a .pre .0, omega (arith, c .if1 .left))
 
 behind-requires : tie.Need-behind-requires Inv-loop μ-loop
-behind-requires c κs = let l = c .before .before .before .before in (l .loop .inv .0, omega (arith, c .before .before .if1 .left, l .before .before .pre .2))
+behind-requires c κs = let l = c .before .before .before .before in (l .loop .inv .0, omega (arith, c .before .before .if1 .left, l .before .before .pre .1))
 
 loop-less : tie.Need-loop-less Inv-loop μ-loop
 loop-less c = omega (arith, ap (λ x. x .at) (c .behind .ensures) ∙ behind-at false (c .before .before .before .before .before .loop .from), c .before .before .before .if1 .left)
@@ -43,12 +43,12 @@ loop-again : tie.Need-loop-again Inv-loop μ-loop
 loop-again c =
     let l = c .before .before .before .before .before in
     let a = l .before .before in (
-      rw (c .behind .ensures) (placed-behind false (l .loop .from) (l .loop .inv .0) (omega (arith, c .before .before .before .if1 .left, a .pre .2))),
+      rw (c .behind .ensures) (placed-behind false (l .loop .from) (l .loop .inv .0) (omega (arith, c .before .before .before .if1 .left, a .pre .1))),
       rw (c .behind .ensures) (l .loop .inv .1 ∙ next-blank _ (l .loop .from) (λ j. omega (arith, l .before .shared-slice-known .given j)) (c .before .before .before .if1 .left) (sym (c .before .before .class-at .ensures) ∙ c .before .if2 .taken)),
     )
 
 behind-requires-2 : tie.Need-behind-requires-2 Inv-loop μ-loop
-behind-requires-2 c κs = let l = c .before .before .before .before .before .before in (l .loop .inv .0, omega (arith, c .before .before .before .before .if1 .left, l .before .before .pre .2))
+behind-requires-2 c κs = let l = c .before .before .before .before .before .before in (l .loop .inv .0, omega (arith, c .before .before .before .before .if1 .left, l .before .before .pre .1))
 
 loop-less-2 : tie.Need-loop-less-2 Inv-loop μ-loop
 loop-less-2 c = omega (arith, ap (λ x. x .at) (c .behind2 .ensures) ∙ behind-at true (c .before .before .before .before .before .before .before .loop .from), c .before .before .before .before .before .if1 .left)
@@ -57,12 +57,12 @@ loop-again-2 : tie.Need-loop-again-2 Inv-loop μ-loop
 loop-again-2 c =
     let l = c .before .before .before .before .before .before .before in
     let a = l .before .before in (
-      rw (c .behind2 .ensures) (placed-behind true (l .loop .from) (l .loop .inv .0) (omega (arith, c .before .before .before .before .before .if1 .left, a .pre .2))),
+      rw (c .behind2 .ensures) (placed-behind true (l .loop .from) (l .loop .inv .0) (omega (arith, c .before .before .before .before .before .if1 .left, a .pre .1))),
       rw (c .behind2 .ensures) (l .loop .inv .1 ∙ next-line _ (l .loop .from) (λ j. omega (arith, l .before .shared-slice-known .given j)) (c .before .before .before .before .before .if1 .left) _ (c .before .before .before .before .class-at .ensures) (sym (c .before .before .is-line-end .ensures) ∙ c .before .if3 .taken)),
     )
 
 mark-requires : tie.Need-mark-requires Inv-loop μ-loop
-mark-requires c κs = let l = c .before .before .before .before .before .before .before in (l .loop .inv .0, omega (arith, c .before .before .before .before .before .if1 .left, l .before .before .pre .2))
+mark-requires c κs = let l = c .before .before .before .before .before .before .before in (l .loop .inv .0, omega (arith, c .before .before .before .before .before .if1 .left, l .before .before .pre .1))
 
 returns-2 : tie.Need-returns-2 Inv-loop μ-loop
 returns-2 c =
@@ -71,7 +71,7 @@ returns-2 c =
     ∙ sym (l .loop .inv .1 ∙ next-mark _ (l .loop .from) (c .before .before .before .before .before .before .if1 .left) (λ j. omega (arith, l .before .shared-slice-known .given j)) _ (c .before .before .before .before .before .class-at .ensures) (c .before .if4 .taken) (c .before .before .before .before .if2 .left))
 
 scan-token-requires : tie.Need-scan-token-requires Inv-loop μ-loop
-scan-token-requires c κs = let a = c .before .before .before .before .before .before .before .before .before in (a .pre .0, a .pre .1, omega (arith, c .before .before .before .before .before .if1 .left))
+scan-token-requires c κs = let a = c .before .before .before .before .before .before .before .before .before in (a .pre .0, omega (arith, c .before .before .before .before .before .if1 .left))
 
 returns-3 : tie.Need-returns-3 Inv-loop μ-loop
 returns-3 c =
@@ -119,7 +119,7 @@ pass-lexeme-requires c κs =
     let l = d .before .before .before .before .before .before .before .before .before .before .before in
     let h = hit-fits (drop (l .loop .from .at) (l .before .before .args .text .now)) _ _ (hit d) in
     let n = length-take-le _ (drop (l .loop .from .at) (l .before .before .args .text .now)) (h .1) in
-    (l .loop .inv .0, rw (slice (l .before .before .args .text .now) (l .loop .from .at) (d .before .found .given .0 .1 .0)) (omega (arith, n, h .0)), rw (slice (l .before .before .args .text .now) (l .loop .from .at) (d .before .found .given .0 .1 .0)) (omega (arith, n, fits d .1, l .before .before .pre .2)))
+    (l .loop .inv .0, rw (slice (l .before .before .args .text .now) (l .loop .from .at) (d .before .found .given .0 .1 .0)) (omega (arith, n, h .0)), rw (slice (l .before .before .args .text .now) (l .loop .from .at) (d .before .found .given .0 .1 .0)) (omega (arith, n, fits d .1, l .before .before .pre .1)))
 
 -- where the lexer stands behind it
 module _ (c : tie.After-pass-lexeme Inv-loop μ-loop) where
@@ -142,7 +142,7 @@ module _ (c : tie.After-pass-lexeme Inv-loop μ-loop) where
   placed =
       let d = c .before .before in
       let l = d .before .before .before .before .before .before .before .before .before .before .before in
-      rw passed (pass-placed _ _ (l .loop .from) (l .loop .inv .0) (omega (arith, length-of, fits d .1, l .before .before .pre .2)))
+      rw passed (pass-placed _ _ (l .loop .from) (l .loop .inv .0) (omega (arith, length-of, fits d .1, l .before .before .pre .1)))
 
   moved : c .pass-lexeme .result .at ≡ c .before .before .before .before .before .before .before .before .before .before .before .before .before .loop .from .at + c .before .before .before .found .given .0 .1 .0
   moved =

@@ -11,16 +11,16 @@ use Rattle.lexer.proofs.unrecognized.Statement.{statement}
 use Rattle.lexer.proofs.unrecognized.Tie as tie
 
 abbrev Inv-loop : tie.InvT-loop
-Inv-loop class trie text from at₀ at = unrecognized (cuts (drop from text)) from ≡ unrecognized (cuts (drop at text)) at
+Inv-loop lut text from at₀ at = unrecognized (cuts (drop from text)) from ≡ unrecognized (cuts (drop at text)) at
 
 abbrev μ-loop : tie.MeasureT-loop
-μ-loop class trie text from at₀ at = length text - at
+μ-loop lut text from at₀ at = length text - at
 
 loop-holds : tie.Need-loop-holds Inv-loop μ-loop
 loop-holds c = refl
 
 extent-requires : tie.Need-extent-requires Inv-loop μ-loop
-extent-requires c κs = let a = c .before .before .before in (a .pre .0, a .pre .1, c .loop-test .taken)
+extent-requires c κs = let a = c .before .before .before in (a .pre, c .loop-test .taken)
 
 returns : tie.Need-returns Inv-loop μ-loop
 unfolding found

@@ -13,10 +13,10 @@ use Rattle.place.proofs.pass_first.Tie as tie
 module _ (c : tie.After-pass-lexeme-arg) where
   -- how many bytes are passed
   some-passed : (0 < c .before .first .result .length) × (c .before .first .result .length ≤ c .before .before .before .args .most)
-  some-passed = rw (c .before .first .ensures .1) (step-length _ _ (c .before .before .before .pre .2) (c .before .before .before .pre .3))
+  some-passed = rw (c .before .first .ensures .1) (step-length _ _ (c .before .before .before .pre .1) (c .before .before .before .pre .2))
 
   long : length (take (c .before .first .result .length) (c .before .before .before .args .text .now)) ≡ c .before .first .result .length
-  long = length-take-le _ _ (omega (arith, some-passed .1, c .before .before .before .pre .3))
+  long = length-take-le _ _ (omega (arith, some-passed .1, c .before .before .before .pre .2))
 
 slice-aggregate-pass-lexeme : tie.Need-slice-aggregate-pass-lexeme
 slice-aggregate-pass-lexeme c = sym (long c)
@@ -25,7 +25,7 @@ pass-lexeme-requires : tie.Need-pass-lexeme-requires
 pass-lexeme-requires c κs =
     let a = c .before .before .before .pre in
     let f = some-passed c in
-    (a .4, omega (arith, long c, f .0), omega (arith, long c, f .1, a .5))
+    (a .3, omega (arith, long c, f .0), omega (arith, long c, f .1, a .4))
 
 returns : tie.Need-returns
 unfolding step

@@ -18,11 +18,11 @@ use Rattle.place.proofs.reached.Statement.{statement}
 use Rattle.place.proofs.reached.Tie as tie
 
 abbrev Inv-loop : tie.InvT-loop
-Inv-loop class trie text place from₀ from =
+Inv-loop lut text place from₀ from =
     Placed from × (from .at ≤ place) × (walk text T.Blank 0 place opening ≡ walk (drop (from .at) text) T.Blank 0 (place - from .at) from)
 
 abbrev μ-loop : tie.MeasureT-loop
-μ-loop class trie text place from₀ from = place - from .at
+μ-loop lut text place from₀ from = place - from .at
 
 start : (t : List ℕ) (m : ℕ) → walk t T.Blank 0 m opening ≡ walk (drop 0 t) T.Blank 0 (m - 0) opening
 start t m = let e : m - 0 ≡ m = omega arith in rw e
@@ -81,7 +81,7 @@ pass-first-requires c κs =
     let l = c .before .before .before in
     let a = l .before .before .before in
     let at = l .loop .from .at in
-    (a .pre .0, a .pre .1, omega (arith, c .before .if1 .left), rw (part (a .args .text .now) at) (omega (arith, length-drop at (a .args .text .now), a .pre .2)), l .loop .inv .0, omega (arith, l .loop .inv .1, a .pre .3))
+    (a .pre .0, omega (arith, c .before .if1 .left), rw (part (a .args .text .now) at) (omega (arith, length-drop at (a .args .text .now), a .pre .1)), l .loop .inv .0, omega (arith, l .loop .inv .1, a .pre .2))
 
 returns : tie.Need-returns Inv-loop μ-loop
 returns c =
@@ -95,7 +95,7 @@ loop-less c =
     let d = c .before .before in
     let l = d .before .before in
     let a = l .before .before .before in
-    let f = goes-further (a .args .text .now) (a .args .place) (l .loop .from) (d .if1 .left) (a .pre .2) (c .pass-first .result) (c .pass-first .ensures) in
+    let f = goes-further (a .args .text .now) (a .args .place) (l .loop .from) (d .if1 .left) (a .pre .1) (c .pass-first .result) (c .pass-first .ensures) in
     omega (arith, f .0, d .if1 .left)
 
 loop-again : tie.Need-loop-again Inv-loop μ-loop
@@ -104,7 +104,7 @@ loop-again c =
     let l = d .before .before in
     let a = l .before .before .before in
     let i = l .loop .inv in
-    let f = goes-on (a .args .text .now) (a .args .place) (l .loop .from) (d .if1 .left) (a .pre .2) (c .pass-first .result) (c .pass-first .ensures) (i .0) (a .pre .3) in
+    let f = goes-on (a .args .text .now) (a .args .place) (l .loop .from) (d .if1 .left) (a .pre .1) (c .pass-first .result) (c .pass-first .ensures) (i .0) (a .pre .2) in
     (f .0, f .1, i .2 ∙ f .2)
 
 pub reached-spec : {M : Type 1} → statement M

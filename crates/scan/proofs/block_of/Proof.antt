@@ -12,10 +12,10 @@ use Rattle.scan.proofs.block_of.Statement.{statement}
 use Rattle.scan.proofs.block_of.Tie as tie
 
 abbrev Inv-loop : tie.InvT-loop
-Inv-loop class text i₀ i = Reached text State.block i Miss
+Inv-loop lut text i₀ i = Reached text State.block i Miss
 
 abbrev μ-loop : tie.MeasureT-loop
-μ-loop class text i₀ i = length text - i
+μ-loop lut text i₀ i = length text - i
 
 loop-holds : tie.Need-loop-holds Inv-loop μ-loop
 loop-holds c = c .before .pre .1

@@ -14,10 +14,10 @@ use Rattle.scan.proofs.name_end.Statement.{statement}
 use Rattle.scan.proofs.name_end.Tie as tie
 
 abbrev Inv-loop : tie.InvT-loop
-Inv-loop class text at i₀ i = Reached text State.named i (Hit T.Identifier i) × (at ≤ i) × (i < length text → 36 ≤ classOf (getD text i 0))
+Inv-loop lut text at i₀ i = Reached text State.named i (Hit T.Identifier i) × (at ≤ i) × (i < length text → 36 ≤ classOf (getD text i 0))
 
 abbrev μ-loop : tie.MeasureT-loop
-μ-loop class text at i₀ i = length text - i
+μ-loop lut text at i₀ i = length text - i
 
 run-above-requires : tie.Need-run-above-requires Inv-loop μ-loop
 run-above-requires c κs = (c .before .pre .0, c .before .pre .1 .inside)

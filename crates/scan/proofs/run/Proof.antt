@@ -11,10 +11,10 @@ use Rattle.scan.proofs.run.Statement.{statement}
 use Rattle.scan.proofs.run.Tie as tie
 
 abbrev Inv-loop : tie.InvT-loop
-Inv-loop class text at from to i₀ i = (i ≤ length text) × (at + before from to (drop at text) ≡ i + before from to (drop i text))
+Inv-loop lut text at from to i₀ i = (i ≤ length text) × (at + before from to (drop at text) ≡ i + before from to (drop i text))
 
 abbrev μ-loop : tie.MeasureT-loop
-μ-loop class text at from to i₀ i = length text - i
+μ-loop lut text at from to i₀ i = length text - i
 
 loop-holds : tie.Need-loop-holds Inv-loop μ-loop
 loop-holds c = (c .before .pre .1, refl)

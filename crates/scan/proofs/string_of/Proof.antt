@@ -11,10 +11,10 @@ use Rattle.scan.proofs.string_of.Statement.{statement}
 use Rattle.scan.proofs.string_of.Tie as tie
 
 abbrev Inv-loop : tie.InvT-loop
-Inv-loop class text double quote stop i₀ i = Reached text (State.inString double) i Miss
+Inv-loop lut text double quote stop i₀ i = Reached text (State.inString double) i Miss
 
 abbrev μ-loop : tie.MeasureT-loop
-μ-loop class text double quote stop i₀ i = length text - i
+μ-loop lut text double quote stop i₀ i = length text - i
 
 loop-holds : tie.Need-loop-holds Inv-loop μ-loop
 loop-holds c = c .before .before .before .pre .1

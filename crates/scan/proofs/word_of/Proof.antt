@@ -12,16 +12,16 @@ use Rattle.scan.proofs.word_of.Statement.{statement}
 use Rattle.scan.proofs.word_of.Tie as tie
 
 abbrev Inv-loop : tie.InvT-loop
-Inv-loop class trie text first node₀ i₀ node i = Reached text State.named i (Hit T.Identifier i) × Word text i node
+Inv-loop lut text first node₀ i₀ node i = Reached text State.named i (Hit T.Identifier i) × Word text i node
 
 abbrev μ-loop : tie.MeasureT-loop
-μ-loop class trie text first node₀ i₀ node i = length text - i
+μ-loop lut text first node₀ i₀ node i = length text - i
 
 child-requires : tie.Need-child-requires Inv-loop μ-loop
-child-requires c κs = (c .before .pre .1, c .before .pre .5)
+child-requires c κs = (c .before .pre .0, c .before .pre .4)
 
 loop-holds : tie.Need-loop-holds Inv-loop μ-loop
-loop-holds c = (first-letter (c .before .before .pre .6) (c .before .before .pre .2) (rw (c .before .before .pre .3) at (c .before .before .pre .4)) (rw (c .before .before .pre .3) at (c .before .before .pre .5)), word-first (c .before .before .pre .2) (c .before .before .pre .6 .bytes 0) (rw (c .before .before .pre .3) at (c .before .before .pre .5)) (c .child .result) (rw (c .before .before .pre .3) at (c .child .ensures)))
+loop-holds c = (first-letter (c .before .before .pre .5) (c .before .before .pre .1) (rw (c .before .before .pre .2) at (c .before .before .pre .3)) (rw (c .before .before .pre .2) at (c .before .before .pre .4)), word-first (c .before .before .pre .1) (c .before .before .pre .5 .bytes 0) (rw (c .before .before .pre .2) at (c .before .before .pre .4)) (c .child .result) (rw (c .before .before .pre .2) at (c .child .ensures)))
 
 name-of-requires : tie.Need-name-of-requires Inv-loop μ-loop
 name-of-requires c κs = (c .before .before .before .before .before .pre .0, c .before .before .loop .inv .0, word-none (c .before .before .loop .inv .1) (c .if1 .taken))
@@ -39,7 +39,7 @@ returns-2 : tie.Need-returns-2 Inv-loop μ-loop
 returns-2 c = c .word-end .ensures
 
 child-requires-2 : tie.Need-child-requires-2 Inv-loop μ-loop
-child-requires-2 c κs = (c .before .before .before .before .before .before .before .pre .1, c .if2 .left)
+child-requires-2 c κs = (c .before .before .before .before .before .before .before .pre .0, c .if2 .left)
 
 loop-again : tie.Need-loop-again Inv-loop μ-loop
 loop-again c = (letter-on (c .before .before .before .before .before .loop .inv .0) (c .before .before .before .before .loop-test .taken) (rw (c .before .before .class-at .ensures) at (c .before .if2 .left)), word-step (word-some (c .before .before .before .before .before .loop .inv .1) (c .before .before .before .if1 .left)) (c .before .before .before .before .loop-test .taken) (c .before .before .before .before .before .loop .inv .0 .bytes (c .before .before .before .before .before .loop .i)) (rw (c .before .before .class-at .ensures) at (c .before .if2 .left)) (c .child2 .result) (rw (c .before .before .class-at .ensures) at (c .child2 .ensures)))

@@ -13,13 +13,13 @@ use Rattle.scanner.proofs.piece_by.Statement.{statement}
 use Rattle.scanner.proofs.piece_by.Tie as tie
 
 abbrev Inv-loop : tie.InvT-loop
-Inv-loop class trie text at from₀ from = pieceAt text at ≡ pieceAt text from
+Inv-loop lut text at from₀ from = pieceAt text at ≡ pieceAt text from
 
 abbrev μ-loop : tie.MeasureT-loop
-μ-loop class trie text at from₀ from = length text - from
+μ-loop lut text at from₀ from = length text - from
 
 scan-token-requires : tie.Need-scan-token-requires Inv-loop μ-loop
-scan-token-requires c κs = let a = c .before .before .before in (a .pre .0, a .pre .1, omega (arith, c .loop-test .taken))
+scan-token-requires c κs = let a = c .before .before .before in (a .pre, omega (arith, c .loop-test .taken))
 
 returns : tie.Need-returns Inv-loop μ-loop
 returns c =

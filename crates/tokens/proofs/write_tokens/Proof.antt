@@ -13,16 +13,16 @@ use Rattle.tokens.proofs.write_tokens.Statement.{statement}
 use Rattle.tokens.proofs.write_tokens.Tie as tie
 
 abbrev Inv-loop : tie.InvT-loop
-Inv-loop class trie text from₀ from = Placed from
+Inv-loop lut text from₀ from = Placed from
 
 abbrev μ-loop : tie.MeasureT-loop
-μ-loop class trie text from₀ from = length text - from .at
+μ-loop lut text from₀ from = length text - from .at
 
 loop-holds : tie.Need-loop-holds Inv-loop μ-loop
 loop-holds c = rw (c .new .ensures) opening-placed
 
 next-token-requires : tie.Need-next-token-requires Inv-loop μ-loop
-next-token-requires c κs = let a = c .before .before .before .pre in (a .0, a .1, a .2, c .loop .inv)
+next-token-requires c κs = let a = c .before .before .before .pre in (a .0, a .1, c .loop .inv)
 
 -- the token that was found
 on : (c : tie.After-next Inv-loop μ-loop)
@@ -39,7 +39,7 @@ loop-again : tie.Need-loop-again Inv-loop μ-loop
 loop-again c =
     let d = c .before .before in
     let l = d .before .before .before in
-    next-placed _ _ _ _ (l .loop .inv) (l .before .before .before .pre .2) (on d)
+    next-placed _ _ _ _ (l .loop .inv) (l .before .before .before .pre .1) (on d)
 
 pub write-tokens-spec : {M : Type 1} → statement M
 write-tokens-spec =

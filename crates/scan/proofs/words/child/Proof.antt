@@ -1,24 +1,22 @@
 -- `scan::words::child` meets its contract.
-use mathlib.Core.Path.{sym}
-use Prim.Native.Nat.{_<_}
+use mathlib.Core.Path.{sym, _∙_}
+use Prim.Native.Nat.{_+_, _<_}
 use native.Mathlib.Omega.{arith}
 use borrow.Author.Needs.{needs}
 use borrow.Author.Tests.{eq-eqb, ne-eqb}
 use lib.ListN.{getD}
-use Rattle.token.specs.Tables.{trie}
-use Rattle.token.specs.Words.{child}
-use Rattle.scan.proofs.Arms.{base-small}
+use Rattle.scan.proofs.Arms.{lent-small, lent-child}
 use Rattle.scan.proofs.words.child.Statement.{statement}
 use Rattle.scan.proofs.words.child.Tie as tie
 
-small : (c : tie.After-t) → getD (c .before .args .trie .now) (c .before .args .node) 0 < 220
-small c = rw (c .before .pre .0) (base-small (c .before .args .node) (search needs))
+small : (c : tie.After-t) → getD (c .before .args .lut .now) (256 + c .before .args .node) 0 < 220
+small c = rw (c .before .pre .0) (lent-small (c .before .args .node) (search needs))
 
 cast-t : tie.Need-cast-t
 cast-t c = omega (arith, small c)
 
-add-t : tie.Need-add-t
-add-t c = omega (arith, small c)
+add-t-2 : tie.Need-add-t-2
+add-t-2 c = omega (arith, small c)
 
 add-if1 : tie.Need-add-if1
 add-if1 c = omega (arith, small c)
@@ -30,12 +28,12 @@ cast-result : tie.Need-cast-result
 cast-result c = omega (arith, small (c .before .before))
 
 returns : tie.Need-returns
-unfolding child
-returns c = let a = c .before .before .before in sym (rw (← a .pre .0, eq-eqb _ _ (c .if1 .taken)))
+returns c = let a = c .before .before .before in sym (lent-child _ _ ∙ rw (← a .pre .0, eq-eqb _ _ (c .if1 .taken)))
 
 returns-2 : tie.Need-returns-2
-unfolding child
-returns-2 c = let a = c .before .before .before in sym (rw (← a .pre .0, ne-eqb _ _ (c .if1 .left)))
+returns-2 c = let a = c .before .before .before in sym (lent-child _ _ ∙ rw (← a .pre .0, ne-eqb _ _ (c .if1 .left)))
 
 pub child-spec : {M : Type 1} → statement M
-child-spec = tie.close (tie.spec (λ c. search needs) cast-t add-t add-if1 element-copy-out-if1 cast-result returns returns-2)
+child-spec =
+    tie.close
+    (tie.spec (λ c. search needs) (λ c. search needs) cast-t add-t-2 add-if1 element-copy-out-if1 cast-result returns returns-2)
