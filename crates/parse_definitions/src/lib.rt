@@ -28,12 +28,12 @@ const EVERY_SCOPE: Leaf = Leaf {
 };
 
 // The record's number and the state behind the keyword, its comments owned.
-fn begin(class: &[u8; 256], trie: &[u8; 512], text: &[u8], st: State, comments: &mut [u32]) -> State
-    requires { ⌜ Lent (now class) (now trie) (now text) ⌝ }
+fn begin(lut: &[u8; 768], text: &[u8], st: State, comments: &mut [u32]) -> State
+    requires { ⌜ Lent (now lut) (now text) ⌝ }
     ensures { λ r. ⌜ Keeps (beginIn (now (text .entry))) st r (now (comments .entry)) (now (comments .exit)) ⌝ }
 {
     let first = st.open().own(st.next, comments);
-    first.advance(class, trie, text)
+    first.advance(lut, text)
 }
 
 // The definition's own record, from its keyword on.
@@ -52,23 +52,22 @@ fn close(rest: &mut [u32], st: State, state: State, kind: u32)
 // parse_include, parse_cpp_include
 // Include ::= ('include' | 'cpp_include') string
 fn parse_include(
-    class: &[u8; 256],
-    trie: &[u8; 512],
+    lut: &[u8; 768],
     text: &[u8],
     st: State,
     kind: u32,
     rest: &mut [u32],
     comments: &mut [u32],
 ) -> Parsed
-    requires { ⌜ Lent (now class) (now trie) (now text) ⌝ }
+    requires { ⌜ Lent (now lut) (now text) ⌝ }
     ensures { λ r. ⌜ Reads (includeIn (now (text .entry)) kind) st r (now (rest .entry)) (now (rest .exit)) (now (comments .entry)) (now (comments .exit)) ⌝ }
 {
     let under = Parent {
         base: st.next,
         node: st.next,
     };
-    let begun = begin(class, trie, text, st, comments);
-    let name = parse_fields::parse_leaf(class, trie, text, begun, INCLUDED, under, rest);
+    let begun = begin(lut, text, st, comments);
+    let name = parse_fields::parse_leaf(lut, text, begun, INCLUDED, under, rest);
     let Parsed::On(state) = name else {
         return name;
     };
@@ -77,56 +76,39 @@ fn parse_include(
 }
 
 // The scope of a namespace: a name or `*`.
-fn parse_scope(
-    class: &[u8; 256],
-    trie: &[u8; 512],
-    text: &[u8],
-    st: State,
-    parent: Parent,
-    rest: &mut [u32],
-) -> Parsed
-    requires { ⌜ Lent (now class) (now trie) (now text) ⌝ }
+fn parse_scope(lut: &[u8; 768], text: &[u8], st: State, parent: Parent, rest: &mut [u32]) -> Parsed
+    requires { ⌜ Lent (now lut) (now text) ⌝ }
     ensures { λ r. ⌜ Quiet (scopeIn (now (text .entry)) (parent .base) (parent .node)) st r (now (rest .entry)) (now (rest .exit)) ⌝ }
 {
     if st.kind == token::kind::STAR {
-        return parse_fields::parse_leaf(class, trie, text, st, EVERY_SCOPE, parent, rest);
+        return parse_fields::parse_leaf(lut, text, st, EVERY_SCOPE, parent, rest);
     }
-    parse_fields::parse_name(
-        class,
-        trie,
-        text,
-        st,
-        error::MISSING_NAMESPACE_SCOPE,
-        parent,
-        rest,
-    )
+    parse_fields::parse_name(lut, text, st, error::MISSING_NAMESPACE_SCOPE, parent, rest)
 }
 
 // parse_namespace
 // Namespace ::= 'namespace' (name | '*') name
 fn parse_namespace(
-    class: &[u8; 256],
-    trie: &[u8; 512],
+    lut: &[u8; 768],
     text: &[u8],
     st: State,
     rest: &mut [u32],
     comments: &mut [u32],
 ) -> Parsed
-    requires { ⌜ Lent (now class) (now trie) (now text) ⌝ }
+    requires { ⌜ Lent (now lut) (now text) ⌝ }
     ensures { λ r. ⌜ Reads (namespaceIn (now (text .entry))) st r (now (rest .entry)) (now (rest .exit)) (now (comments .entry)) (now (comments .exit)) ⌝ }
 {
     let under = Parent {
         base: st.next,
         node: st.next,
     };
-    let begun = begin(class, trie, text, st, comments);
-    let scope = parse_scope(class, trie, text, begun, under, rest);
+    let begun = begin(lut, text, st, comments);
+    let scope = parse_scope(lut, text, begun, under, rest);
     let Parsed::On(scoped) = scope else {
         return scope;
     };
     let name = parse_fields::parse_name(
-        class,
-        trie,
+        lut,
         text,
         scoped,
         error::MISSING_NAMESPACE_IDENTIFIER,
@@ -142,45 +124,42 @@ fn parse_namespace(
 
 // A type and a name.
 fn parse_typed_name(
-    class: &[u8; 256],
-    trie: &[u8; 512],
+    lut: &[u8; 768],
     text: &[u8],
     st: State,
     number: u32,
     parent: Parent,
     rest: &mut [u32],
 ) -> Parsed
-    requires { ⌜ Lent (now class) (now trie) (now text) ⌝ }
+    requires { ⌜ Lent (now lut) (now text) ⌝ }
     ensures { λ r. ⌜ Quiet (typedNameIn (now (text .entry)) number (parent .base) (parent .node)) st r (now (rest .entry)) (now (rest .exit)) ⌝ }
 {
-    let read = types::parse_type(class, trie, text, st, NESTING, parent, rest);
+    let read = types::parse_type(lut, text, st, NESTING, parent, rest);
     let Parsed::On(typed) = read else {
         return read;
     };
-    parse_fields::parse_name(class, trie, text, typed, number, parent, rest)
+    parse_fields::parse_name(lut, text, typed, number, parent, rest)
 }
 
 // parse_const: separators and comments behind the value are taken, and lie outside its range.
 // Const ::= 'const' Type name '=' Value (Separator | Comment)*
 fn parse_const(
-    class: &[u8; 256],
-    trie: &[u8; 512],
+    lut: &[u8; 768],
     text: &[u8],
     st: State,
     rest: &mut [u32],
     comments: &mut [u32],
 ) -> Parsed
-    requires { ⌜ Lent (now class) (now trie) (now text) ⌝ }
+    requires { ⌜ Lent (now lut) (now text) ⌝ }
     ensures { λ r. ⌜ Reads (constIn (now (text .entry))) st r (now (rest .entry)) (now (rest .exit)) (now (comments .entry)) (now (comments .exit)) ⌝ }
 {
     let under = Parent {
         base: st.next,
         node: st.next,
     };
-    let begun = begin(class, trie, text, st, comments);
+    let begun = begin(lut, text, st, comments);
     let head = parse_typed_name(
-        class,
-        trie,
+        lut,
         text,
         begun,
         error::MISSING_CONST_IDENTIFIER,
@@ -190,45 +169,37 @@ fn parse_const(
     let Parsed::On(named) = head else {
         return head;
     };
-    let equals = named.expect(
-        class,
-        trie,
-        text,
-        token::kind::EQUALS,
-        error::UNEXPECTED_TOKEN,
-    );
+    let equals = named.expect(lut, text, token::kind::EQUALS, error::UNEXPECTED_TOKEN);
     let Parsed::On(behind) = equals else {
         return equals;
     };
-    let value = values::parse_value(class, trie, text, behind, NESTING, under, rest);
+    let value = values::parse_value(lut, text, behind, NESTING, under, rest);
     let Parsed::On(state) = value else {
         return value;
     };
     close(rest, st, state, ast::kind::CONST);
-    Parsed::On(state.skip_comments(class, trie, text, true, comments))
+    Parsed::On(state.skip_comments(lut, text, true, comments))
 }
 
 // parse_typedef
 // Typedef ::= 'typedef' Type name
 fn parse_typedef(
-    class: &[u8; 256],
-    trie: &[u8; 512],
+    lut: &[u8; 768],
     text: &[u8],
     st: State,
     rest: &mut [u32],
     comments: &mut [u32],
 ) -> Parsed
-    requires { ⌜ Lent (now class) (now trie) (now text) ⌝ }
+    requires { ⌜ Lent (now lut) (now text) ⌝ }
     ensures { λ r. ⌜ Reads (typedefIn (now (text .entry))) st r (now (rest .entry)) (now (rest .exit)) (now (comments .entry)) (now (comments .exit)) ⌝ }
 {
     let under = Parent {
         base: st.next,
         node: st.next,
     };
-    let begun = begin(class, trie, text, st, comments);
+    let begun = begin(lut, text, st, comments);
     let head = parse_typed_name(
-        class,
-        trie,
+        lut,
         text,
         begun,
         error::MISSING_TYPEDEF_IDENTIFIER,
@@ -245,24 +216,22 @@ fn parse_typedef(
 // parse_enum
 // Enum ::= 'enum' name '{' EnumMember* '}' Annotations?
 fn parse_enum(
-    class: &[u8; 256],
-    trie: &[u8; 512],
+    lut: &[u8; 768],
     text: &[u8],
     st: State,
     rest: &mut [u32],
     comments: &mut [u32],
 ) -> Parsed
-    requires { ⌜ Lent (now class) (now trie) (now text) ⌝ }
+    requires { ⌜ Lent (now lut) (now text) ⌝ }
     ensures { λ r. ⌜ Reads (enumIn (now (text .entry))) st r (now (rest .entry)) (now (rest .exit)) (now (comments .entry)) (now (comments .exit)) ⌝ }
 {
     let under = Parent {
         base: st.next,
         node: st.next,
     };
-    let begun = begin(class, trie, text, st, comments);
+    let begun = begin(lut, text, st, comments);
     let name = parse_fields::parse_name(
-        class,
-        trie,
+        lut,
         text,
         begun,
         error::MISSING_ENUM_IDENTIFIER,
@@ -272,11 +241,11 @@ fn parse_enum(
     let Parsed::On(named) = name else {
         return name;
     };
-    let body = enums::parse_enum_members(class, trie, text, named, under, rest, comments);
+    let body = enums::parse_enum_members(lut, text, named, under, rest, comments);
     let Parsed::On(behind) = body else {
         return body;
     };
-    let read = annotations::parse_annotations(class, trie, text, behind, under, rest);
+    let read = annotations::parse_annotations(lut, text, behind, under, rest);
     let Parsed::On(state) = read else {
         return read;
     };
@@ -287,25 +256,23 @@ fn parse_enum(
 // parse_struct_like: struct, union, exception
 // Structure ::= ('struct' | 'union' | 'exception') name '{' Field* '}' Annotations?
 fn parse_structure(
-    class: &[u8; 256],
-    trie: &[u8; 512],
+    lut: &[u8; 768],
     text: &[u8],
     st: State,
     kind: u32,
     rest: &mut [u32],
     comments: &mut [u32],
 ) -> Parsed
-    requires { ⌜ Lent (now class) (now trie) (now text) ⌝ }
+    requires { ⌜ Lent (now lut) (now text) ⌝ }
     ensures { λ r. ⌜ Reads (structureIn (now (text .entry)) kind) st r (now (rest .entry)) (now (rest .exit)) (now (comments .entry)) (now (comments .exit)) ⌝ }
 {
     let under = Parent {
         base: st.next,
         node: st.next,
     };
-    let begun = begin(class, trie, text, st, comments);
+    let begun = begin(lut, text, st, comments);
     let name = parse_fields::parse_name(
-        class,
-        trie,
+        lut,
         text,
         begun,
         error::MISSING_STRUCT_IDENTIFIER,
@@ -315,20 +282,11 @@ fn parse_structure(
     let Parsed::On(named) = name else {
         return name;
     };
-    let body = fields::parse_fields(
-        class,
-        trie,
-        text,
-        named,
-        fields::MEMBERS,
-        under,
-        rest,
-        comments,
-    );
+    let body = fields::parse_fields(lut, text, named, fields::MEMBERS, under, rest, comments);
     let Parsed::On(behind) = body else {
         return body;
     };
-    let read = annotations::parse_annotations(class, trie, text, behind, under, rest);
+    let read = annotations::parse_annotations(lut, text, behind, under, rest);
     let Parsed::On(state) = read else {
         return read;
     };
@@ -339,23 +297,21 @@ fn parse_structure(
 // The service that another extends, if it names one.
 // Extends ::= 'extends' name
 fn parse_extends(
-    class: &[u8; 256],
-    trie: &[u8; 512],
+    lut: &[u8; 768],
     text: &[u8],
     st: State,
     parent: Parent,
     rest: &mut [u32],
 ) -> Parsed
-    requires { ⌜ Lent (now class) (now trie) (now text) ⌝ }
+    requires { ⌜ Lent (now lut) (now text) ⌝ }
     ensures { λ r. ⌜ Quiet (extendsIn (now (text .entry)) (parent .base) (parent .node)) st r (now (rest .entry)) (now (rest .exit)) ⌝ }
 {
     if st.kind != token::kind::EXTENDS {
         return Parsed::On(st);
     }
-    let state = st.advance(class, trie, text);
+    let state = st.advance(lut, text);
     parse_fields::parse_name(
-        class,
-        trie,
+        lut,
         text,
         state,
         error::MISSING_SERVICE_EXTENDS,
@@ -366,19 +322,17 @@ fn parse_extends(
 
 // The name of a service, and what it extends.
 fn parse_service_head(
-    class: &[u8; 256],
-    trie: &[u8; 512],
+    lut: &[u8; 768],
     text: &[u8],
     st: State,
     parent: Parent,
     rest: &mut [u32],
 ) -> Parsed
-    requires { ⌜ Lent (now class) (now trie) (now text) ⌝ }
+    requires { ⌜ Lent (now lut) (now text) ⌝ }
     ensures { λ r. ⌜ Quiet (serviceHeadIn (now (text .entry)) (parent .base) (parent .node)) st r (now (rest .entry)) (now (rest .exit)) ⌝ }
 {
     let name = parse_fields::parse_name(
-        class,
-        trie,
+        lut,
         text,
         st,
         error::MISSING_SERVICE_IDENTIFIER,
@@ -388,36 +342,35 @@ fn parse_service_head(
     let Parsed::On(named) = name else {
         return name;
     };
-    parse_extends(class, trie, text, named, parent, rest)
+    parse_extends(lut, text, named, parent, rest)
 }
 
 // parse_service
 // Service ::= 'service' name Extends? '{' Function* '}' Annotations?
 fn parse_service(
-    class: &[u8; 256],
-    trie: &[u8; 512],
+    lut: &[u8; 768],
     text: &[u8],
     st: State,
     rest: &mut [u32],
     comments: &mut [u32],
 ) -> Parsed
-    requires { ⌜ Lent (now class) (now trie) (now text) ⌝ }
+    requires { ⌜ Lent (now lut) (now text) ⌝ }
     ensures { λ r. ⌜ Reads (serviceIn (now (text .entry))) st r (now (rest .entry)) (now (rest .exit)) (now (comments .entry)) (now (comments .exit)) ⌝ }
 {
     let under = Parent {
         base: st.next,
         node: st.next,
     };
-    let begun = begin(class, trie, text, st, comments);
-    let head = parse_service_head(class, trie, text, begun, under, rest);
+    let begun = begin(lut, text, st, comments);
+    let head = parse_service_head(lut, text, begun, under, rest);
     let Parsed::On(named) = head else {
         return head;
     };
-    let body = functions::parse_functions(class, trie, text, named, under, rest, comments);
+    let body = functions::parse_functions(lut, text, named, under, rest, comments);
     let Parsed::On(behind) = body else {
         return body;
     };
-    let read = annotations::parse_annotations(class, trie, text, behind, under, rest);
+    let read = annotations::parse_annotations(lut, text, behind, under, rest);
     let Parsed::On(state) = read else {
         return read;
     };
@@ -428,53 +381,44 @@ fn parse_service(
 // The definition whose keyword is ahead.
 // Definition ::= Include | Namespace | Const | Typedef | Enum | Structure | Service
 pub fn parse_definition(
-    class: &[u8; 256],
-    trie: &[u8; 512],
+    lut: &[u8; 768],
     text: &[u8],
     st: State,
     rest: &mut [u32],
     comments: &mut [u32],
 ) -> Parsed
-    requires { ⌜ Lent (now class) (now trie) (now text) ⌝ }
+    requires { ⌜ Lent (now lut) (now text) ⌝ }
     ensures { λ r. ⌜ Reads (definitionIn (now (text .entry))) st r (now (rest .entry)) (now (rest .exit)) (now (comments .entry)) (now (comments .exit)) ⌝ }
 {
     if st.kind == token::kind::NAMESPACE {
-        return parse_namespace(class, trie, text, st, rest, comments);
+        return parse_namespace(lut, text, st, rest, comments);
     }
     if st.kind == token::kind::CPP_INCLUDE {
-        return parse_include(
-            class,
-            trie,
-            text,
-            st,
-            ast::kind::CPP_INCLUDE,
-            rest,
-            comments,
-        );
+        return parse_include(lut, text, st, ast::kind::CPP_INCLUDE, rest, comments);
     }
     if st.kind == token::kind::INCLUDE {
-        return parse_include(class, trie, text, st, ast::kind::INCLUDE, rest, comments);
+        return parse_include(lut, text, st, ast::kind::INCLUDE, rest, comments);
     }
     if st.kind == token::kind::TYPEDEF {
-        return parse_typedef(class, trie, text, st, rest, comments);
+        return parse_typedef(lut, text, st, rest, comments);
     }
     if st.kind == token::kind::CONST {
-        return parse_const(class, trie, text, st, rest, comments);
+        return parse_const(lut, text, st, rest, comments);
     }
     if st.kind == token::kind::ENUM {
-        return parse_enum(class, trie, text, st, rest, comments);
+        return parse_enum(lut, text, st, rest, comments);
     }
     if st.kind == token::kind::STRUCT {
-        return parse_structure(class, trie, text, st, ast::kind::STRUCT, rest, comments);
+        return parse_structure(lut, text, st, ast::kind::STRUCT, rest, comments);
     }
     if st.kind == token::kind::UNION {
-        return parse_structure(class, trie, text, st, ast::kind::UNION, rest, comments);
+        return parse_structure(lut, text, st, ast::kind::UNION, rest, comments);
     }
     if st.kind == token::kind::EXCEPTION {
-        return parse_structure(class, trie, text, st, ast::kind::EXCEPTION, rest, comments);
+        return parse_structure(lut, text, st, ast::kind::EXCEPTION, rest, comments);
     }
     if st.kind == token::kind::SERVICE {
-        return parse_service(class, trie, text, st, rest, comments);
+        return parse_service(lut, text, st, rest, comments);
     }
     st.refuse(error::UNEXPECTED_TOKEN)
 }

@@ -18,14 +18,13 @@ const VALUE: Leaf = Leaf {
 // A name, `=`, a string, and at most one separator.
 // Annotation ::= name '=' string Separator?
 fn parse_annotation(
-    class: &[u8; 256],
-    trie: &[u8; 512],
+    lut: &[u8; 768],
     text: &[u8],
     st: State,
     parent: Parent,
     rest: &mut [u32],
 ) -> Parsed
-    requires { ⌜ Lent (now class) (now trie) (now text) ⌝ }
+    requires { ⌜ Lent (now lut) (now text) ⌝ }
     ensures { λ r. ⌜ Quiet (annotationIn (now (text .entry)) (parent .base) (parent .node)) st r (now (rest .entry)) (now (rest .exit)) ⌝ }
 {
     let under = Parent {
@@ -33,29 +32,15 @@ fn parse_annotation(
         node: st.next,
     };
     let opened = st.open();
-    let name = crate::parse_name(
-        class,
-        trie,
-        text,
-        opened,
-        error::UNEXPECTED_TOKEN,
-        under,
-        rest,
-    );
+    let name = crate::parse_name(lut, text, opened, error::UNEXPECTED_TOKEN, under, rest);
     let Parsed::On(named) = name else {
         return name;
     };
-    let equals = named.expect(
-        class,
-        trie,
-        text,
-        token::kind::EQUALS,
-        error::UNEXPECTED_TOKEN,
-    );
+    let equals = named.expect(lut, text, token::kind::EQUALS, error::UNEXPECTED_TOKEN);
     let Parsed::On(behind) = equals else {
         return equals;
     };
-    let value = crate::parse_leaf(class, trie, text, behind, VALUE, under, rest);
+    let value = crate::parse_leaf(lut, text, behind, VALUE, under, rest);
     let Parsed::On(state) = value else {
         return value;
     };
@@ -63,30 +48,29 @@ fn parse_annotation(
     let start = loc.start;
     state.put_node(rest, st.next, ast::kind::ANNOTATION, 0, start, parent);
     if steps::is_separator(state.kind) {
-        return Parsed::On(state.advance(class, trie, text));
+        return Parsed::On(state.advance(lut, text));
     }
     Parsed::On(state)
 }
 
 // Annotations up to the closing bracket, and that; comments among them are dropped.
 fn parse_annotation_list(
-    class: &[u8; 256],
-    trie: &[u8; 512],
+    lut: &[u8; 768],
     text: &[u8],
     st: State,
     parent: Parent,
     rest: &mut [u32],
 ) -> Parsed
-    requires { ⌜ Lent (now class) (now trie) (now text) ⌝ }
+    requires { ⌜ Lent (now lut) (now text) ⌝ }
     ensures { λ r. ⌜ Quiet (annotationListIn (now (text .entry)) (parent .base) (parent .node)) st r (now (rest .entry)) (now (rest .exit)) ⌝ }
 {
     let mut state = st;
     loop {
-        let found = state.skip(class, trie, text, false);
+        let found = state.skip(lut, text, false);
         if found.kind == token::kind::RIGHT_PAREN {
-            return found.take(class, trie, text);
+            return found.take(lut, text);
         }
-        let read = parse_annotation(class, trie, text, found, parent, rest);
+        let read = parse_annotation(lut, text, found, parent, rest);
         let Parsed::On(behind) = read else {
             return read;
         };
@@ -96,18 +80,17 @@ fn parse_annotation_list(
 
 // parse_annotations, if there are any. The usual case, none, is apart, so that it copies no state.
 pub fn parse_annotations(
-    class: &[u8; 256],
-    trie: &[u8; 512],
+    lut: &[u8; 768],
     text: &[u8],
     st: State,
     parent: Parent,
     rest: &mut [u32],
 ) -> Parsed
-    requires { ⌜ Lent (now class) (now trie) (now text) ⌝ }
+    requires { ⌜ Lent (now lut) (now text) ⌝ }
     ensures { λ r. ⌜ Quiet (annotationsIn (now (text .entry)) (parent .base) (parent .node)) st r (now (rest .entry)) (now (rest .exit)) ⌝ }
 {
     if st.kind == token::kind::LEFT_PAREN {
-        return parse_some_annotations(class, trie, text, st, parent, rest);
+        return parse_some_annotations(lut, text, st, parent, rest);
     }
     Parsed::On(st)
 }
@@ -115,14 +98,13 @@ pub fn parse_annotations(
 // They start at the token before the bracket, which is ahead.
 // Annotations ::= '(' (Comment* Annotation)* Comment* ')'
 fn parse_some_annotations(
-    class: &[u8; 256],
-    trie: &[u8; 512],
+    lut: &[u8; 768],
     text: &[u8],
     st: State,
     parent: Parent,
     rest: &mut [u32],
 ) -> Parsed
-    requires { ⌜ Lent (now class) (now trie) (now text) × (st .kind ≡ 40) ⌝ }
+    requires { ⌜ Lent (now lut) (now text) × (st .kind ≡ 40) ⌝ }
     ensures { λ r. ⌜ Quiet (annotationsIn (now (text .entry)) (parent .base) (parent .node)) st r (now (rest .entry)) (now (rest .exit)) ⌝ }
 {
     let under = Parent {
@@ -130,8 +112,8 @@ fn parse_some_annotations(
         node: st.next,
     };
     let opened = st.open();
-    let inside = opened.advance(class, trie, text);
-    let read = parse_annotation_list(class, trie, text, inside, under, rest);
+    let inside = opened.advance(lut, text);
+    let read = parse_annotation_list(lut, text, inside, under, rest);
     let Parsed::On(state) = read else {
         return read;
     };

@@ -17,17 +17,16 @@ use steps::table;
 // parse_field_id; without an id the first token, of any kind, is passed over.
 // FieldId ::= integer ':' | token
 fn parse_field_id(
-    class: &[u8; 256],
-    trie: &[u8; 512],
+    lut: &[u8; 768],
     text: &[u8],
     st: State,
     parent: Parent,
     rest: &mut [u32],
 ) -> Parsed
-    requires { ⌜ Lent (now class) (now trie) (now text) ⌝ }
+    requires { ⌜ Lent (now lut) (now text) ⌝ }
     ensures { λ r. ⌜ Quiet (fieldIdIn (now (text .entry)) (parent .base) (parent .node)) st r (now (rest .entry)) (now (rest .exit)) ⌝ }
 {
-    let taken = st.take(class, trie, text);
+    let taken = st.take(lut, text);
     let Parsed::On(state) = taken else {
         return taken;
     };
@@ -38,13 +37,7 @@ fn parse_field_id(
         return st.refuse(error::INVALID_FIELD_ID);
     }
     let numbered = state.put_leaf(rest, ast::kind::FIELD_ID, parent);
-    numbered.expect(
-        class,
-        trie,
-        text,
-        token::kind::COLON,
-        error::UNEXPECTED_TOKEN,
-    )
+    numbered.expect(lut, text, token::kind::COLON, error::UNEXPECTED_TOKEN)
 }
 
 // The flag of a requiredness; else 0.
@@ -63,14 +56,14 @@ fn required_flag(kind: u32) -> u32
 
 // Past a requiredness, if it is there.
 // Required ::= 'required' | 'optional'
-fn skip_required(class: &[u8; 256], trie: &[u8; 512], text: &[u8], st: State) -> State
-    requires { ⌜ Lent (now class) (now trie) (now text) ⌝ }
+fn skip_required(lut: &[u8; 768], text: &[u8], st: State) -> State
+    requires { ⌜ Lent (now lut) (now text) ⌝ }
     ensures { λ r. ⌜ r ≡ skipRequired (now (text .entry)) st ⌝ }
 {
     if required_flag(st.kind) == 0 {
         return st;
     }
-    st.advance(class, trie, text)
+    st.advance(lut, text)
 }
 
 // parse_field_name: the kinds that may name a field.
@@ -109,87 +102,82 @@ fn is_early_name(kind: u32) -> bool
 }
 
 fn parse_field_name(
-    class: &[u8; 256],
-    trie: &[u8; 512],
+    lut: &[u8; 768],
     text: &[u8],
     st: State,
     parent: Parent,
     rest: &mut [u32],
 ) -> Parsed
-    requires { ⌜ Lent (now class) (now trie) (now text) ⌝ }
+    requires { ⌜ Lent (now lut) (now text) ⌝ }
     ensures { λ r. ⌜ Quiet (fieldNameIn (now (text .entry)) (parent .base) (parent .node)) st r (now (rest .entry)) (now (rest .exit)) ⌝ }
 {
     if !is_field_name(st.kind) {
         return st.refuse(error::INVALID_FIELD_NAME);
     }
-    let state = st.advance(class, trie, text);
+    let state = st.advance(lut, text);
     Parsed::On(state.put_leaf(rest, ast::kind::NAME, parent))
 }
 
 // The default value, if there is one.
 // Default ::= '=' Value
 fn parse_default(
-    class: &[u8; 256],
-    trie: &[u8; 512],
+    lut: &[u8; 768],
     text: &[u8],
     st: State,
     parent: Parent,
     rest: &mut [u32],
 ) -> Parsed
-    requires { ⌜ Lent (now class) (now trie) (now text) ⌝ }
+    requires { ⌜ Lent (now lut) (now text) ⌝ }
     ensures { λ r. ⌜ Quiet (defaultIn (now (text .entry)) (parent .base) (parent .node)) st r (now (rest .entry)) (now (rest .exit)) ⌝ }
 {
     if st.kind != token::kind::EQUALS {
         return Parsed::On(st);
     }
-    let state = st.advance(class, trie, text);
-    values::parse_value(class, trie, text, state, NESTING, parent, rest)
+    let state = st.advance(lut, text);
+    values::parse_value(lut, text, state, NESTING, parent, rest)
 }
 
 // The type and the name of a field, behind its id.
 fn parse_field_head(
-    class: &[u8; 256],
-    trie: &[u8; 512],
+    lut: &[u8; 768],
     text: &[u8],
     st: State,
     parent: Parent,
     rest: &mut [u32],
 ) -> Parsed
-    requires { ⌜ Lent (now class) (now trie) (now text) ⌝ }
+    requires { ⌜ Lent (now lut) (now text) ⌝ }
     ensures { λ r. ⌜ Quiet (fieldHeadIn (now (text .entry)) (parent .base) (parent .node)) st r (now (rest .entry)) (now (rest .exit)) ⌝ }
 {
-    let begun = skip_required(class, trie, text, st);
-    let read = types::parse_type(class, trie, text, begun, NESTING, parent, rest);
+    let begun = skip_required(lut, text, st);
+    let read = types::parse_type(lut, text, begun, NESTING, parent, rest);
     let Parsed::On(typed) = read else {
         return read;
     };
-    parse_field_name(class, trie, text, typed, parent, rest)
+    parse_field_name(lut, text, typed, parent, rest)
 }
 
 // The default value and the annotations of a field.
 fn parse_field_tail(
-    class: &[u8; 256],
-    trie: &[u8; 512],
+    lut: &[u8; 768],
     text: &[u8],
     st: State,
     parent: Parent,
     rest: &mut [u32],
 ) -> Parsed
-    requires { ⌜ Lent (now class) (now trie) (now text) ⌝ }
+    requires { ⌜ Lent (now lut) (now text) ⌝ }
     ensures { λ r. ⌜ Quiet (fieldTailIn (now (text .entry)) (parent .base) (parent .node)) st r (now (rest .entry)) (now (rest .exit)) ⌝ }
 {
-    let read = parse_default(class, trie, text, st, parent, rest);
+    let read = parse_default(lut, text, st, parent, rest);
     let Parsed::On(state) = read else {
         return read;
     };
-    annotations::parse_annotations(class, trie, text, state, parent, rest)
+    annotations::parse_annotations(lut, text, state, parent, rest)
 }
 
 // parse_field; `flag` is THROWN for a thrown field, else 0.
 // Field ::= FieldId Required? Type FieldName Default? Annotations?
 fn parse_field(
-    class: &[u8; 256],
-    trie: &[u8; 512],
+    lut: &[u8; 768],
     text: &[u8],
     st: State,
     flag: u32,
@@ -197,7 +185,7 @@ fn parse_field(
     rest: &mut [u32],
     comments: &mut [u32],
 ) -> Parsed
-    requires { ⌜ Lent (now class) (now trie) (now text) ⌝ }
+    requires { ⌜ Lent (now lut) (now text) ⌝ }
     ensures { λ r. ⌜ Reads (fieldIn (now (text .entry)) flag (parent .base) (parent .node)) st r (now (rest .entry)) (now (rest .exit)) (now (comments .entry)) (now (comments .exit)) ⌝ }
 {
     let under = Parent {
@@ -205,15 +193,15 @@ fn parse_field(
         node: st.next,
     };
     let first = st.open().own(st.next, comments);
-    let id = parse_field_id(class, trie, text, first, under, rest);
+    let id = parse_field_id(lut, text, first, under, rest);
     let Parsed::On(numbered) = id else {
         return id;
     };
-    let head = parse_field_head(class, trie, text, numbered, under, rest);
+    let head = parse_field_head(lut, text, numbered, under, rest);
     let Parsed::On(named) = head else {
         return head;
     };
-    let tail = parse_field_tail(class, trie, text, named, under, rest);
+    let tail = parse_field_tail(lut, text, named, under, rest);
     let Parsed::On(state) = tail else {
         return tail;
     };
@@ -252,8 +240,7 @@ pub const THROWN: FieldList = FieldList {
 // parse_members and parse_parameters over fields.
 // Fields ::= open (Separator* Comment* Field)* Separator* Comment* close
 pub fn parse_fields(
-    class: &[u8; 256],
-    trie: &[u8; 512],
+    lut: &[u8; 768],
     text: &[u8],
     st: State,
     list: FieldList,
@@ -261,21 +248,21 @@ pub fn parse_fields(
     rest: &mut [u32],
     comments: &mut [u32],
 ) -> Parsed
-    requires { ⌜ Lent (now class) (now trie) (now text) ⌝ }
+    requires { ⌜ Lent (now lut) (now text) ⌝ }
     ensures { λ r. ⌜ Reads (fieldsIn (now (text .entry)) (list .opener) (list .closer) (list .flag) (parent .base) (parent .node)) st r (now (rest .entry)) (now (rest .exit)) (now (comments .entry)) (now (comments .exit)) ⌝ }
 {
-    let opened = st.expect(class, trie, text, list.opener, error::UNEXPECTED_TOKEN);
+    let opened = st.expect(lut, text, list.opener, error::UNEXPECTED_TOKEN);
     let Parsed::On(inside) = opened else {
         return opened;
     };
     let mut state = inside;
     loop {
-        let over = state.skip(class, trie, text, true);
-        let found = over.skip_comments(class, trie, text, false, comments);
+        let over = state.skip(lut, text, true);
+        let found = over.skip_comments(lut, text, false, comments);
         if found.kind == list.closer {
-            return found.take(class, trie, text);
+            return found.take(lut, text);
         }
-        let read = parse_field(class, trie, text, found, list.flag, parent, rest, comments);
+        let read = parse_field(lut, text, found, list.flag, parent, rest, comments);
         let Parsed::On(behind) = read else {
             return read;
         };

@@ -17,18 +17,17 @@ pub struct Leaf {
 
 // A token of one kind, as a node.
 pub fn parse_leaf(
-    class: &[u8; 256],
-    trie: &[u8; 512],
+    lut: &[u8; 768],
     text: &[u8],
     st: State,
     leaf: Leaf,
     parent: Parent,
     rest: &mut [u32],
 ) -> Parsed
-    requires { ⌜ Lent (now class) (now trie) (now text) ⌝ }
+    requires { ⌜ Lent (now lut) (now text) ⌝ }
     ensures { λ r. ⌜ Quiet (tokenIn (now (text .entry)) (leaf .token) (leaf .number) (leaf .kind) (parent .base) (parent .node)) st r (now (rest .entry)) (now (rest .exit)) ⌝ }
 {
-    let taken = st.expect(class, trie, text, leaf.token, leaf.number);
+    let taken = st.expect(lut, text, leaf.token, leaf.number);
     let Parsed::On(state) = taken else {
         return taken;
     };
@@ -37,20 +36,18 @@ pub fn parse_leaf(
 
 // An identifier, as a name.
 pub fn parse_name(
-    class: &[u8; 256],
-    trie: &[u8; 512],
+    lut: &[u8; 768],
     text: &[u8],
     st: State,
     number: u32,
     parent: Parent,
     rest: &mut [u32],
 ) -> Parsed
-    requires { ⌜ Lent (now class) (now trie) (now text) ⌝ }
+    requires { ⌜ Lent (now lut) (now text) ⌝ }
     ensures { λ r. ⌜ Quiet (nameIn (now (text .entry)) number (parent .base) (parent .node)) st r (now (rest .entry)) (now (rest .exit)) ⌝ }
 {
     parse_leaf(
-        class,
-        trie,
+        lut,
         text,
         st,
         Leaf {

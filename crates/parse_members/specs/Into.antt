@@ -1,7 +1,7 @@
 -- What the readers of functions and enum members do to the state and to both tables: their part of parser/specs/Definitions, with records
 -- written as they are read. Contracts of this crate and of those above it cite it, and proofs/MeantFunctions shows that it means the definitions;
 -- nothing else has to believe it.
-use mathlib.Core.Bool.{true, cond}
+use mathlib.Core.Bool.{Bool, true, cond, _||_}
 use mathlib.Core.List.{List}
 use Prim.Native.Nat.{ℕ}
 use lib.Dec.{eqb}

@@ -24,40 +24,32 @@ const INTEGER: Leaf = Leaf {
 
 // The number of a member, if it is written.
 fn parse_initializer(
-    class: &[u8; 256],
-    trie: &[u8; 512],
+    lut: &[u8; 768],
     text: &[u8],
     st: State,
     parent: Parent,
     rest: &mut [u32],
 ) -> Parsed
-    requires { ⌜ Lent (now class) (now trie) (now text) ⌝ }
+    requires { ⌜ Lent (now lut) (now text) ⌝ }
     ensures { λ r. ⌜ Quiet (initializerIn (now (text .entry)) (parent .base) (parent .node)) st r (now (rest .entry)) (now (rest .exit)) ⌝ }
 {
     if st.kind == token::kind::EQUALS {
-        return parse_number(class, trie, text, st, parent, rest);
+        return parse_number(lut, text, st, parent, rest);
     }
     Parsed::On(st)
 }
 
 // The number of a member, its `=` ahead.
 // Initializer ::= '=' (hex | integer)
-fn parse_number(
-    class: &[u8; 256],
-    trie: &[u8; 512],
-    text: &[u8],
-    st: State,
-    parent: Parent,
-    rest: &mut [u32],
-) -> Parsed
-    requires { ⌜ Lent (now class) (now trie) (now text) × (st .kind ≡ 45) ⌝ }
+fn parse_number(lut: &[u8; 768], text: &[u8], st: State, parent: Parent, rest: &mut [u32]) -> Parsed
+    requires { ⌜ Lent (now lut) (now text) × (st .kind ≡ 45) ⌝ }
     ensures { λ r. ⌜ Quiet (initializerIn (now (text .entry)) (parent .base) (parent .node)) st r (now (rest .entry)) (now (rest .exit)) ⌝ }
 {
-    let state = st.advance(class, trie, text);
+    let state = st.advance(lut, text);
     if state.kind == token::kind::HEX_LITERAL {
-        return parse_fields::parse_leaf(class, trie, text, state, HEX, parent, rest);
+        return parse_fields::parse_leaf(lut, text, state, HEX, parent, rest);
     }
-    parse_fields::parse_leaf(class, trie, text, state, INTEGER, parent, rest)
+    parse_fields::parse_leaf(lut, text, state, INTEGER, parent, rest)
 }
 
 // Whether more than its name belongs to a member that this kind follows.
@@ -73,15 +65,14 @@ fn has_tail(kind: u32) -> bool
 // parse_enum_member. The usual case, a name alone, is apart, so that it copies no state.
 // EnumMember ::= name Initializer? Annotations?
 fn parse_enum_member(
-    class: &[u8; 256],
-    trie: &[u8; 512],
+    lut: &[u8; 768],
     text: &[u8],
     st: State,
     parent: Parent,
     rest: &mut [u32],
     comments: &mut [u32],
 ) -> Parsed
-    requires { ⌜ Lent (now class) (now trie) (now text) ⌝ }
+    requires { ⌜ Lent (now lut) (now text) ⌝ }
     ensures { λ r. ⌜ Reads (memberIn (now (text .entry)) (parent .base) (parent .node)) st r (now (rest .entry)) (now (rest .exit)) (now (comments .entry)) (now (comments .exit)) ⌝ }
 {
     let under = Parent {
@@ -90,8 +81,7 @@ fn parse_enum_member(
     };
     let first = st.open().own(st.next, comments);
     let name = parse_fields::parse_name(
-        class,
-        trie,
+        lut,
         text,
         first,
         error::INVALID_ENUM_MEMBER_NAME,
@@ -107,11 +97,11 @@ fn parse_enum_member(
         named.put_node(rest, st.next, ast::kind::ENUM_MEMBER, 0, start, parent);
         return Parsed::On(named);
     }
-    let value = parse_initializer(class, trie, text, named, under, rest);
+    let value = parse_initializer(lut, text, named, under, rest);
     let Parsed::On(behind) = value else {
         return value;
     };
-    let read = annotations::parse_annotations(class, trie, text, behind, under, rest);
+    let read = annotations::parse_annotations(lut, text, behind, under, rest);
     let Parsed::On(state) = read else {
         return read;
     };
@@ -122,35 +112,28 @@ fn parse_enum_member(
 // The members of an enum, in braces.
 // '{' (Separator* Comment* EnumMember)* Separator* Comment* '}'
 pub fn parse_enum_members(
-    class: &[u8; 256],
-    trie: &[u8; 512],
+    lut: &[u8; 768],
     text: &[u8],
     st: State,
     parent: Parent,
     rest: &mut [u32],
     comments: &mut [u32],
 ) -> Parsed
-    requires { ⌜ Lent (now class) (now trie) (now text) ⌝ }
+    requires { ⌜ Lent (now lut) (now text) ⌝ }
     ensures { λ r. ⌜ Reads (enumMembersIn (now (text .entry)) (parent .base) (parent .node)) st r (now (rest .entry)) (now (rest .exit)) (now (comments .entry)) (now (comments .exit)) ⌝ }
 {
-    let opened = st.expect(
-        class,
-        trie,
-        text,
-        token::kind::LEFT_BRACE,
-        error::UNEXPECTED_TOKEN,
-    );
+    let opened = st.expect(lut, text, token::kind::LEFT_BRACE, error::UNEXPECTED_TOKEN);
     let Parsed::On(inside) = opened else {
         return opened;
     };
     let mut state = inside;
     loop {
-        let over = state.skip(class, trie, text, true);
-        let found = over.skip_comments(class, trie, text, false, comments);
+        let over = state.skip(lut, text, true);
+        let found = over.skip_comments(lut, text, false, comments);
         if found.kind == token::kind::RIGHT_BRACE {
-            return found.take(class, trie, text);
+            return found.take(lut, text);
         }
-        let read = parse_enum_member(class, trie, text, found, parent, rest, comments);
+        let read = parse_enum_member(lut, text, found, parent, rest, comments);
         let Parsed::On(behind) = read else {
             return read;
         };

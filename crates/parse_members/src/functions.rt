@@ -16,50 +16,39 @@ use steps::table;
 // The thrown fields, if `throws` is written.
 // Throws ::= 'throws' '(' Field* ')'
 fn parse_throws(
-    class: &[u8; 256],
-    trie: &[u8; 512],
+    lut: &[u8; 768],
     text: &[u8],
     st: State,
     parent: Parent,
     rest: &mut [u32],
     comments: &mut [u32],
 ) -> Parsed
-    requires { ⌜ Lent (now class) (now trie) (now text) ⌝ }
+    requires { ⌜ Lent (now lut) (now text) ⌝ }
     ensures { λ r. ⌜ Reads (throwsIn (now (text .entry)) (parent .base) (parent .node)) st r (now (rest .entry)) (now (rest .exit)) (now (comments .entry)) (now (comments .exit)) ⌝ }
 {
     if st.kind != token::kind::THROWS {
         return Parsed::On(st);
     }
-    let state = st.advance(class, trie, text);
-    fields::parse_fields(
-        class,
-        trie,
-        text,
-        state,
-        fields::THROWN,
-        parent,
-        rest,
-        comments,
-    )
+    let state = st.advance(lut, text);
+    fields::parse_fields(lut, text, state, fields::THROWN, parent, rest, comments)
 }
 
 // `void`, or a type.
 // ReturnType ::= 'void' | Type
 fn parse_return_type(
-    class: &[u8; 256],
-    trie: &[u8; 512],
+    lut: &[u8; 768],
     text: &[u8],
     st: State,
     parent: Parent,
     rest: &mut [u32],
 ) -> Parsed
-    requires { ⌜ Lent (now class) (now trie) (now text) ⌝ }
+    requires { ⌜ Lent (now lut) (now text) ⌝ }
     ensures { λ r. ⌜ Quiet (returnTypeIn (now (text .entry)) (parent .base) (parent .node)) st r (now (rest .entry)) (now (rest .exit)) ⌝ }
 {
     if st.kind != token::kind::VOID {
-        return types::parse_type(class, trie, text, st, NESTING, parent, rest);
+        return types::parse_type(lut, text, st, NESTING, parent, rest);
     }
-    let state = st.advance(class, trie, text);
+    let state = st.advance(lut, text);
     Parsed::On(state.put_leaf(rest, ast::kind::KEYWORD_TYPE, parent))
 }
 
@@ -71,77 +60,66 @@ fn flag_if(ahead: u32, kind: u32, flag: u32) -> u32
 }
 
 // Past `oneway`, if it is there.
-fn skip_oneway(class: &[u8; 256], trie: &[u8; 512], text: &[u8], st: State) -> State
-    requires { ⌜ Lent (now class) (now trie) (now text) ⌝ }
+fn skip_oneway(lut: &[u8; 768], text: &[u8], st: State) -> State
+    requires { ⌜ Lent (now lut) (now text) ⌝ }
     ensures { λ r. ⌜ r ≡ skipOneway (now (text .entry)) st ⌝ }
 {
     if st.kind != token::kind::ONEWAY {
         return st;
     }
-    st.advance(class, trie, text)
+    st.advance(lut, text)
 }
 
 // The return type and the name of a function.
 fn parse_function_head(
-    class: &[u8; 256],
-    trie: &[u8; 512],
+    lut: &[u8; 768],
     text: &[u8],
     st: State,
     parent: Parent,
     rest: &mut [u32],
 ) -> Parsed
-    requires { ⌜ Lent (now class) (now trie) (now text) ⌝ }
+    requires { ⌜ Lent (now lut) (now text) ⌝ }
     ensures { λ r. ⌜ Quiet (functionHeadIn (now (text .entry)) (parent .base) (parent .node)) st r (now (rest .entry)) (now (rest .exit)) ⌝ }
 {
-    let begun = skip_oneway(class, trie, text, st);
-    let read = parse_return_type(class, trie, text, begun, parent, rest);
+    let begun = skip_oneway(lut, text, st);
+    let read = parse_return_type(lut, text, begun, parent, rest);
     let Parsed::On(typed) = read else {
         return read;
     };
-    parse_fields::parse_name(
-        class,
-        trie,
-        text,
-        typed,
-        error::UNEXPECTED_TOKEN,
-        parent,
-        rest,
-    )
+    parse_fields::parse_name(lut, text, typed, error::UNEXPECTED_TOKEN, parent, rest)
 }
 
 // What stands behind the parameters: thrown fields; separators and comments; annotations.
 fn parse_function_tail(
-    class: &[u8; 256],
-    trie: &[u8; 512],
+    lut: &[u8; 768],
     text: &[u8],
     st: State,
     parent: Parent,
     rest: &mut [u32],
     comments: &mut [u32],
 ) -> Parsed
-    requires { ⌜ Lent (now class) (now trie) (now text) ⌝ }
+    requires { ⌜ Lent (now lut) (now text) ⌝ }
     ensures { λ r. ⌜ Reads (functionTailIn (now (text .entry)) (parent .base) (parent .node)) st r (now (rest .entry)) (now (rest .exit)) (now (comments .entry)) (now (comments .exit)) ⌝ }
 {
-    let thrown = parse_throws(class, trie, text, st, parent, rest, comments);
+    let thrown = parse_throws(lut, text, st, parent, rest, comments);
     let Parsed::On(behind) = thrown else {
         return thrown;
     };
-    let state = behind.skip_comments(class, trie, text, true, comments);
-    annotations::parse_annotations(class, trie, text, state, parent, rest)
+    let state = behind.skip_comments(lut, text, true, comments);
+    annotations::parse_annotations(lut, text, state, parent, rest)
 }
 
 // parse_function: its range starts at its name.
 // Function ::= 'oneway'? ReturnType name '(' Field* ')' Throws? (Separator | Comment)* Annotations?
 fn parse_function(
-    class: &[u8; 256],
-    trie: &[u8; 512],
+    lut: &[u8; 768],
     text: &[u8],
     st: State,
     parent: Parent,
     rest: &mut [u32],
     comments: &mut [u32],
 ) -> Parsed
-    requires { ⌜ Lent (now class) (now trie) (now text) ⌝ }
+    requires { ⌜ Lent (now lut) (now text) ⌝ }
     ensures { λ r. ⌜ Reads (functionIn (now (text .entry)) (parent .base) (parent .node)) st r (now (rest .entry)) (now (rest .exit)) (now (comments .entry)) (now (comments .exit)) ⌝ }
 {
     let under = Parent {
@@ -149,24 +127,15 @@ fn parse_function(
         node: st.next,
     };
     let first = st.open().own(st.next, comments);
-    let head = parse_function_head(class, trie, text, first, under, rest);
+    let head = parse_function_head(lut, text, first, under, rest);
     let Parsed::On(named) = head else {
         return head;
     };
-    let read = fields::parse_fields(
-        class,
-        trie,
-        text,
-        named,
-        fields::PARAMETERS,
-        under,
-        rest,
-        comments,
-    );
+    let read = fields::parse_fields(lut, text, named, fields::PARAMETERS, under, rest, comments);
     let Parsed::On(behind) = read else {
         return read;
     };
-    let tail = parse_function_tail(class, trie, text, behind, under, rest, comments);
+    let tail = parse_function_tail(lut, text, behind, under, rest, comments);
     let Parsed::On(state) = tail else {
         return tail;
     };
@@ -183,35 +152,28 @@ fn parse_function(
 // The functions of a service, in braces.
 // '{' (Separator* Comment* Function)* Separator* Comment* '}'
 pub fn parse_functions(
-    class: &[u8; 256],
-    trie: &[u8; 512],
+    lut: &[u8; 768],
     text: &[u8],
     st: State,
     parent: Parent,
     rest: &mut [u32],
     comments: &mut [u32],
 ) -> Parsed
-    requires { ⌜ Lent (now class) (now trie) (now text) ⌝ }
+    requires { ⌜ Lent (now lut) (now text) ⌝ }
     ensures { λ r. ⌜ Reads (functionsIn (now (text .entry)) (parent .base) (parent .node)) st r (now (rest .entry)) (now (rest .exit)) (now (comments .entry)) (now (comments .exit)) ⌝ }
 {
-    let opened = st.expect(
-        class,
-        trie,
-        text,
-        token::kind::LEFT_BRACE,
-        error::UNEXPECTED_TOKEN,
-    );
+    let opened = st.expect(lut, text, token::kind::LEFT_BRACE, error::UNEXPECTED_TOKEN);
     let Parsed::On(inside) = opened else {
         return opened;
     };
     let mut state = inside;
     loop {
-        let over = state.skip(class, trie, text, true);
-        let found = over.skip_comments(class, trie, text, false, comments);
+        let over = state.skip(lut, text, true);
+        let found = over.skip_comments(lut, text, false, comments);
         if found.kind == token::kind::RIGHT_BRACE {
-            return found.take(class, trie, text);
+            return found.take(lut, text);
         }
-        let read = parse_function(class, trie, text, found, parent, rest, comments);
+        let read = parse_function(lut, text, found, parent, rest, comments);
         let Parsed::On(behind) = read else {
             return read;
         };

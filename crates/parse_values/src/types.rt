@@ -44,18 +44,17 @@ fn container_type(kind: u32) -> u32
 // parse_field_type with `depth` containers left: the next one inside is 23 at its keyword.
 // Type ::= keyword | name | ('list' | 'set') '<' Type '>' | 'map' '<' Type ',' Type '>'
 pub fn parse_type(
-    class: &[u8; 256],
-    trie: &[u8; 512],
+    lut: &[u8; 768],
     text: &[u8],
     st: State,
     depth: u32,
     parent: Parent,
     rest: &mut [u32],
 ) -> Parsed
-    requires { ⌜ Lent (now class) (now trie) (now text) ⌝ }
+    requires { ⌜ Lent (now lut) (now text) ⌝ }
     ensures { λ r. ⌜ Quiet (typeIn (now (text .entry)) depth (parent .base) (parent .node)) st r (now (rest .entry)) (now (rest .exit)) ⌝ }
 {
-    let taken = st.take(class, trie, text);
+    let taken = st.take(lut, text);
     let Parsed::On(state) = taken else {
         return taken;
     };
@@ -70,13 +69,12 @@ pub fn parse_type(
     if depth == 0 {
         return st.refuse(error::TOO_DEEP);
     }
-    parse_complex_type(class, trie, text, state, container, depth - 1, parent, rest)
+    parse_complex_type(lut, text, state, container, depth - 1, parent, rest)
 }
 
 // parse_complex_type, parse_map_type: behind the container's keyword.
 fn parse_complex_type(
-    class: &[u8; 256],
-    trie: &[u8; 512],
+    lut: &[u8; 768],
     text: &[u8],
     st: State,
     kind: u32,
@@ -84,34 +82,22 @@ fn parse_complex_type(
     parent: Parent,
     rest: &mut [u32],
 ) -> Parsed
-    requires { ⌜ Lent (now class) (now trie) (now text) ⌝ }
+    requires { ⌜ Lent (now lut) (now text) ⌝ }
     ensures { λ r. ⌜ Quiet (complexIn (now (text .entry)) kind (λ q. typeIn (now (text .entry)) depth (parent .base) q) (parent .base) (parent .node)) st r (now (rest .entry)) (now (rest .exit)) ⌝ }
 {
     let under = Parent {
         base: parent.base,
         node: st.next,
     };
-    let opened = st.open().expect(
-        class,
-        trie,
-        text,
-        token::kind::LEFT_ANGLE,
-        error::UNEXPECTED_TOKEN,
-    );
+    let opened = st.open().expect(lut, text, token::kind::LEFT_ANGLE, error::UNEXPECTED_TOKEN);
     let Parsed::On(inner) = opened else {
         return opened;
     };
-    let read = parse_contained(class, trie, text, inner, kind, depth, under, rest);
+    let read = parse_contained(lut, text, inner, kind, depth, under, rest);
     let Parsed::On(behind) = read else {
         return read;
     };
-    let closed = behind.expect(
-        class,
-        trie,
-        text,
-        token::kind::RIGHT_ANGLE,
-        error::UNEXPECTED_TOKEN,
-    );
+    let closed = behind.expect(lut, text, token::kind::RIGHT_ANGLE, error::UNEXPECTED_TOKEN);
     let Parsed::On(state) = closed else {
         return closed;
     };
@@ -123,8 +109,7 @@ fn parse_complex_type(
 
 // The contained type; of a map both, with the comma between.
 fn parse_contained(
-    class: &[u8; 256],
-    trie: &[u8; 512],
+    lut: &[u8; 768],
     text: &[u8],
     st: State,
     kind: u32,
@@ -132,25 +117,19 @@ fn parse_contained(
     parent: Parent,
     rest: &mut [u32],
 ) -> Parsed
-    requires { ⌜ Lent (now class) (now trie) (now text) ⌝ }
+    requires { ⌜ Lent (now lut) (now text) ⌝ }
     ensures { λ r. ⌜ Quiet (containedIn (now (text .entry)) kind (typeIn (now (text .entry)) depth (parent .base) (parent .node))) st r (now (rest .entry)) (now (rest .exit)) ⌝ }
 {
-    let first = parse_type(class, trie, text, st, depth, parent, rest);
+    let first = parse_type(lut, text, st, depth, parent, rest);
     if kind != ast::kind::MAP {
         return first;
     }
     let Parsed::On(key) = first else {
         return first;
     };
-    let comma = key.expect(
-        class,
-        trie,
-        text,
-        token::kind::COMMA,
-        error::UNEXPECTED_TOKEN,
-    );
+    let comma = key.expect(lut, text, token::kind::COMMA, error::UNEXPECTED_TOKEN);
     let Parsed::On(value) = comma else {
         return comma;
     };
-    parse_type(class, trie, text, value, depth, parent, rest)
+    parse_type(lut, text, value, depth, parent, rest)
 }

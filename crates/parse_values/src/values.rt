@@ -46,18 +46,17 @@ fn is_opener(kind: u32) -> bool
 // parse_field_value with `depth` containers left: the next one inside is 23 at its bracket.
 // Value ::= string | integer | double | boolean | hex | name | List | Map
 pub fn parse_value(
-    class: &[u8; 256],
-    trie: &[u8; 512],
+    lut: &[u8; 768],
     text: &[u8],
     st: State,
     depth: u32,
     parent: Parent,
     rest: &mut [u32],
 ) -> Parsed
-    requires { ⌜ Lent (now class) (now trie) (now text) ⌝ }
+    requires { ⌜ Lent (now lut) (now text) ⌝ }
     ensures { λ r. ⌜ Quiet (valueIn (now (text .entry)) depth (parent .base) (parent .node)) st r (now (rest .entry)) (now (rest .exit)) ⌝ }
 {
-    let taken = st.take(class, trie, text);
+    let taken = st.take(lut, text);
     let Parsed::On(state) = taken else {
         return taken;
     };
@@ -72,23 +71,22 @@ pub fn parse_value(
         return st.refuse(error::TOO_DEEP);
     }
     if st.kind == token::kind::LEFT_BRACKET {
-        return parse_list_value(class, trie, text, state, depth - 1, parent, rest);
+        return parse_list_value(lut, text, state, depth - 1, parent, rest);
     }
-    parse_map_value(class, trie, text, state, depth - 1, parent, rest)
+    parse_map_value(lut, text, state, depth - 1, parent, rest)
 }
 
 // parse_list_value: behind the bracket.
 // List ::= '[' (Separator* Comment* Value)* Separator* Comment* ']'
 fn parse_list_value(
-    class: &[u8; 256],
-    trie: &[u8; 512],
+    lut: &[u8; 768],
     text: &[u8],
     st: State,
     depth: u32,
     parent: Parent,
     rest: &mut [u32],
 ) -> Parsed
-    requires { ⌜ Lent (now class) (now trie) (now text) ⌝ }
+    requires { ⌜ Lent (now lut) (now text) ⌝ }
     ensures { λ r. ⌜ Quiet (listIn (now (text .entry)) (λ q. valueIn (now (text .entry)) depth (parent .base) q) (parent .base) (parent .node)) st r (now (rest .entry)) (now (rest .exit)) ⌝ }
 {
     let under = Parent {
@@ -96,7 +94,7 @@ fn parse_list_value(
         node: st.next,
     };
     let opened = st.open();
-    let read = parse_elements(class, trie, text, opened, depth, under, rest);
+    let read = parse_elements(lut, text, opened, depth, under, rest);
     let Parsed::On(state) = read else {
         return read;
     };
@@ -108,25 +106,24 @@ fn parse_list_value(
 
 // The elements up to the closing bracket, and that.
 fn parse_elements(
-    class: &[u8; 256],
-    trie: &[u8; 512],
+    lut: &[u8; 768],
     text: &[u8],
     st: State,
     depth: u32,
     parent: Parent,
     rest: &mut [u32],
 ) -> Parsed
-    requires { ⌜ Lent (now class) (now trie) (now text) ⌝ }
+    requires { ⌜ Lent (now lut) (now text) ⌝ }
     ensures { λ r. ⌜ Quiet (elementsIn (now (text .entry)) (valueIn (now (text .entry)) depth (parent .base) (parent .node))) st r (now (rest .entry)) (now (rest .exit)) ⌝ }
 {
     let mut state = st;
     loop {
-        let over = state.skip_all(class, trie, text, true);
-        let found = over.skip_all(class, trie, text, false);
+        let over = state.skip_all(lut, text, true);
+        let found = over.skip_all(lut, text, false);
         if found.kind == token::kind::RIGHT_BRACKET {
-            return found.take(class, trie, text);
+            return found.take(lut, text);
         }
-        let read = parse_value(class, trie, text, found, depth, parent, rest);
+        let read = parse_value(lut, text, found, depth, parent, rest);
         let Parsed::On(behind) = read else {
             return read;
         };
@@ -137,15 +134,14 @@ fn parse_elements(
 // parse_map_value: behind the brace.
 // Map ::= '{' (Separator* Comment* Property)* Separator* Comment* '}'
 fn parse_map_value(
-    class: &[u8; 256],
-    trie: &[u8; 512],
+    lut: &[u8; 768],
     text: &[u8],
     st: State,
     depth: u32,
     parent: Parent,
     rest: &mut [u32],
 ) -> Parsed
-    requires { ⌜ Lent (now class) (now trie) (now text) ⌝ }
+    requires { ⌜ Lent (now lut) (now text) ⌝ }
     ensures { λ r. ⌜ Quiet (mapIn (now (text .entry)) (λ q. valueIn (now (text .entry)) depth (parent .base) q) (parent .base) (parent .node)) st r (now (rest .entry)) (now (rest .exit)) ⌝ }
 {
     let under = Parent {
@@ -153,7 +149,7 @@ fn parse_map_value(
         node: st.next,
     };
     let opened = st.open();
-    let read = parse_properties(class, trie, text, opened, depth, under, rest);
+    let read = parse_properties(lut, text, opened, depth, under, rest);
     let Parsed::On(state) = read else {
         return read;
     };
@@ -165,25 +161,24 @@ fn parse_map_value(
 
 // The properties up to the closing brace, and that.
 fn parse_properties(
-    class: &[u8; 256],
-    trie: &[u8; 512],
+    lut: &[u8; 768],
     text: &[u8],
     st: State,
     depth: u32,
     parent: Parent,
     rest: &mut [u32],
 ) -> Parsed
-    requires { ⌜ Lent (now class) (now trie) (now text) ⌝ }
+    requires { ⌜ Lent (now lut) (now text) ⌝ }
     ensures { λ r. ⌜ Quiet (propertiesIn (now (text .entry)) (propertyIn (now (text .entry)) (λ q. valueIn (now (text .entry)) depth (parent .base) q) (parent .base) (parent .node))) st r (now (rest .entry)) (now (rest .exit)) ⌝ }
 {
     let mut state = st;
     loop {
-        let over = state.skip_all(class, trie, text, true);
-        let found = over.skip_all(class, trie, text, false);
+        let over = state.skip_all(lut, text, true);
+        let found = over.skip_all(lut, text, false);
         if found.kind == token::kind::RIGHT_BRACE {
-            return found.take(class, trie, text);
+            return found.take(lut, text);
         }
-        let read = parse_property(class, trie, text, found, depth, parent, rest);
+        let read = parse_property(lut, text, found, depth, parent, rest);
         let Parsed::On(past) = read else {
             return read;
         };
@@ -194,15 +189,14 @@ fn parse_properties(
 // A property: two values with a colon between.
 // Property ::= Value ':' Value
 fn parse_property(
-    class: &[u8; 256],
-    trie: &[u8; 512],
+    lut: &[u8; 768],
     text: &[u8],
     st: State,
     depth: u32,
     parent: Parent,
     rest: &mut [u32],
 ) -> Parsed
-    requires { ⌜ Lent (now class) (now trie) (now text) ⌝ }
+    requires { ⌜ Lent (now lut) (now text) ⌝ }
     ensures { λ r. ⌜ Quiet (propertyIn (now (text .entry)) (λ q. valueIn (now (text .entry)) depth (parent .base) q) (parent .base) (parent .node)) st r (now (rest .entry)) (now (rest .exit)) ⌝ }
 {
     let under = Parent {
@@ -210,21 +204,15 @@ fn parse_property(
         node: st.next,
     };
     let opened = st.open();
-    let first = parse_value(class, trie, text, opened, depth, under, rest);
+    let first = parse_value(lut, text, opened, depth, under, rest);
     let Parsed::On(key) = first else {
         return first;
     };
-    let colon = key.expect(
-        class,
-        trie,
-        text,
-        token::kind::COLON,
-        error::UNEXPECTED_TOKEN,
-    );
+    let colon = key.expect(lut, text, token::kind::COLON, error::UNEXPECTED_TOKEN);
     let Parsed::On(behind) = colon else {
         return colon;
     };
-    let second = parse_value(class, trie, text, behind, depth, under, rest);
+    let second = parse_value(lut, text, behind, depth, under, rest);
     let Parsed::On(state) = second else {
         return second;
     };

@@ -27,18 +27,17 @@ fn rest_of(len: usize, number: u32) -> usize
 
 // The definition, its records in the unused rest of the table.
 fn parse_in_rest(
-    class: &[u8; 256],
-    trie: &[u8; 512],
+    lut: &[u8; 768],
     text: &[u8],
     st: State,
     nodes: &mut [u32],
     comments: &mut [u32],
 ) -> Parsed
-    requires { ⌜ Lent (now class) (now trie) (now text) ⌝ }
+    requires { ⌜ Lent (now lut) (now text) ⌝ }
     ensures { λ r. ⌜ Reads (restIn (now (text .entry))) st r (now (nodes .entry)) (now (nodes .exit)) (now (comments .entry)) (now (comments .exit)) ⌝ }
 {
     let at = rest_of(nodes.len(), st.next);
-    parse_definitions::parse_definition(class, trie, text, st, &mut nodes[at..], comments)
+    parse_definitions::parse_definition(lut, text, st, &mut nodes[at..], comments)
 }
 
 // The end of the text: refused where the last token ends at offset 1.
@@ -53,41 +52,34 @@ fn over(st: State) -> Parsed
 }
 
 // Between definitions: separators, comments, separators again.
-fn between(
-    class: &[u8; 256],
-    trie: &[u8; 512],
-    text: &[u8],
-    st: State,
-    comments: &mut [u32],
-) -> State
-    requires { ⌜ Lent (now class) (now trie) (now text) ⌝ }
+fn between(lut: &[u8; 768], text: &[u8], st: State, comments: &mut [u32]) -> State
+    requires { ⌜ Lent (now lut) (now text) ⌝ }
     ensures { λ r. ⌜ Keeps (betweenIn (now (text .entry))) st r (now (comments .entry)) (now (comments .exit)) ⌝ }
 {
-    let over = st.skip(class, trie, text, true);
-    let found = over.skip_comments(class, trie, text, false, comments);
-    found.skip(class, trie, text, true)
+    let over = st.skip(lut, text, true);
+    let found = over.skip_comments(lut, text, false, comments);
+    found.skip(lut, text, true)
 }
 
 // parse: all definitions.
 // Document ::= (Gap Definition)* Gap; Gap ::= Separator* Comment* Separator*
 fn parse_document(
-    class: &[u8; 256],
-    trie: &[u8; 512],
+    lut: &[u8; 768],
     text: &[u8],
     st: State,
     nodes: &mut [u32],
     comments: &mut [u32],
 ) -> Parsed
-    requires { ⌜ Lent (now class) (now trie) (now text) ⌝ }
+    requires { ⌜ Lent (now lut) (now text) ⌝ }
     ensures { λ r. ⌜ Reads (documentIn (now (text .entry))) st r (now (nodes .entry)) (now (nodes .exit)) (now (comments .entry)) (now (comments .exit)) ⌝ }
 {
     let mut state = st;
     loop {
-        let found = between(class, trie, text, state, comments);
+        let found = between(lut, text, state, comments);
         if found.kind == NONE {
             return over(found);
         }
-        let read = parse_in_rest(class, trie, text, found, nodes, comments);
+        let read = parse_in_rest(lut, text, found, nodes, comments);
         let Parsed::On(behind) = read else {
             return read;
         };
@@ -96,8 +88,8 @@ fn parse_document(
 }
 
 // The state at the start of a text.
-fn begin(class: &[u8; 256], trie: &[u8; 512], text: &[u8]) -> State
-    requires { ⌜ Lent (now class) (now trie) (now text) ⌝ }
+fn begin(lut: &[u8; 768], text: &[u8]) -> State
+    requires { ⌜ Lent (now lut) (now text) ⌝ }
     ensures { λ r. ⌜ r ≡ beginning (now (text .entry)) ⌝ }
 {
     let lexer = Lexer::new();
@@ -113,7 +105,7 @@ fn begin(class: &[u8; 256], trie: &[u8; 512], text: &[u8]) -> State
         owned: 0,
         waiting: 0,
     };
-    let found = steps::look(class, trie, text, start);
+    let found = steps::look(lut, text, start);
     st.ahead(found)
 }
 
@@ -217,12 +209,11 @@ fn parse(text: &[u8], nodes: &mut [u32], comments: &mut [u32]) -> Answer
     requires { ⌜ length (now text) ≤ 65536 ⌝ }
     ensures { λ r. ⌜ told r (now (nodes .exit)) (now (comments .exit)) ≡ parsing (now (text .entry)) (now (nodes .entry)) (now (comments .entry)) ⌝ }
 {
-    let class = lexer::table::CLASS;
-    let trie = lexer::table::WORDS;
-    let st = begin(&class, &trie, text);
-    let parsed = parse_document(&class, &trie, text, st, nodes, comments);
+    let lut = lexer::table::LUT;
+    let st = begin(&lut, text);
+    let parsed = parse_document(&lut, text, st, nodes, comments);
     let from = unscanned(parsed);
-    if let Found::At(at) = lexer::unrecognized(&class, &trie, text, from) {
+    if let Found::At(at) = lexer::unrecognized(&lut, text, from) {
         return refuse(error::NO_TOKEN, at as u32, 0, nodes, comments);
     }
     judge(parsed, text.len(), nodes, comments)

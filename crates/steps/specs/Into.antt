@@ -7,7 +7,7 @@ use Prim.Native.Nat.{ℕ, zero, suc, _+_, _*_, _-_, _≤_}
 use lib.Dec.{eqb, ltb, leb}
 use lib.ListN.{length, take, drop, set, replicate}
 use Rattle.token.specs.Code.{code}
-use Rattle.token.specs.Tables.{classes, trie}
+use Rattle.token.specs.Tables.{tables}
 use Rattle.lexer.specs.declared.location.Lexer.{Lexer}
 use Rattle.lexer.specs.declared.location.Span.{Span}
 use Rattle.lexer.specs.declared.location.LOC.{LOC}
@@ -20,10 +20,9 @@ use Rattle.steps.specs.declared.state.State.{State}
 use Rattle.steps.specs.declared.state.Parsed.{Parsed}
 use Rattle.steps.specs.declared.state.Parsed.the-variants.{On, Refused}
 
--- what every reader is lent: the lexer's tables, and a text that passed 20
-pub record Lent (class nodes text : List ℕ) : Type 0 where
-  pub classed : class ≡ classes
-  pub spelled : nodes ≡ trie
+-- what every reader is lent: the lexer's table, and a text that passed 20
+pub record Lent (lut text : List ℕ) : Type 0 where
+  pub tabled : lut ≡ tables
   pub short : length text ≤ 65536
 
 -- the state and both tables afterwards; or document 01's number and a place

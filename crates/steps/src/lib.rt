@@ -29,8 +29,8 @@ fn lexer_at(place: Span) -> Lexer
 }
 
 // The token behind a place; none where the place is in no text.
-pub fn look(class: &[u8; 256], trie: &[u8; 512], text: &[u8], place: Span) -> Next
-    requires { ⌜ Lent (now class) (now trie) (now text) ⌝ }
+pub fn look(lut: &[u8; 768], text: &[u8], place: Span) -> Next
+    requires { ⌜ Lent (now lut) (now text) ⌝ }
     ensures { λ r. ⌜ r ≡ lookAt (now (text .entry)) place ⌝ }
 {
     let from = lexer_at(place);
@@ -40,7 +40,7 @@ pub fn look(class: &[u8; 256], trie: &[u8; 512], text: &[u8], place: Span) -> Ne
     if from.at < from.line {
         return Next::End;
     }
-    lexer::next_token(class, trie, text, from)
+    lexer::next_token(lut, text, from)
 }
 
 // Whether a kind is a separator; or a comment.

@@ -87,13 +87,13 @@ impl State {
     }
 
     // advance
-    pub fn advance(self, class: &[u8; 256], trie: &[u8; 512], text: &[u8]) -> State
-        requires { ⌜ Lent (now class) (now trie) (now text) ⌝ }
+    pub fn advance(self, lut: &[u8; 768], text: &[u8]) -> State
+        requires { ⌜ Lent (now lut) (now text) ⌝ }
         ensures { λ r. ⌜ r ≡ advanced (now (text .entry)) self ⌝ }
     {
         let loc = self.loc;
         let end = loc.end;
-        let found = crate::look(class, trie, text, end);
+        let found = crate::look(lut, text, end);
         self.ahead(found)
     }
 
@@ -123,59 +123,46 @@ impl State {
     }
 
     // The token ahead, whatever it is.
-    pub fn take(self, class: &[u8; 256], trie: &[u8; 512], text: &[u8]) -> Parsed
-        requires { ⌜ Lent (now class) (now trie) (now text) ⌝ }
+    pub fn take(self, lut: &[u8; 768], text: &[u8]) -> Parsed
+        requires { ⌜ Lent (now lut) (now text) ⌝ }
         ensures { λ r. ⌜ Still (takeIn (now (text .entry))) self r ⌝ }
     {
         if self.kind == NONE {
             return self.refuse(error::UNEXPECTED_EOF);
         }
-        Parsed::On(self.advance(class, trie, text))
+        Parsed::On(self.advance(lut, text))
     }
 
     // expect_token, consume: a token of one kind, or a refusal.
-    pub fn expect(
-        self,
-        class: &[u8; 256],
-        trie: &[u8; 512],
-        text: &[u8],
-        kind: u32,
-        number: u32,
-    ) -> Parsed
-        requires { ⌜ Lent (now class) (now trie) (now text) ⌝ }
+    pub fn expect(self, lut: &[u8; 768], text: &[u8], kind: u32, number: u32) -> Parsed
+        requires { ⌜ Lent (now lut) (now text) ⌝ }
         ensures { λ r. ⌜ Still (expectIn (now (text .entry)) kind number) self r ⌝ }
     {
         if self.kind == kind {
-            return self.take(class, trie, text);
+            return self.take(lut, text);
         }
         self.refuse(number)
     }
 
     // skip_separator (`separators`), skip_comments_discard (else). The usual case, nothing to skip, is apart from the loop, so that it copies no state.
-    pub fn skip(self, class: &[u8; 256], trie: &[u8; 512], text: &[u8], separators: bool) -> State
-        requires { ⌜ Lent (now class) (now trie) (now text) ⌝ }
+    pub fn skip(self, lut: &[u8; 768], text: &[u8], separators: bool) -> State
+        requires { ⌜ Lent (now lut) (now text) ⌝ }
         ensures { λ r. ⌜ r ≡ passed (now (text .entry)) separators self ⌝ }
     {
         if crate::passes(self.kind, separators) {
-            return self.skip_all(class, trie, text, separators);
+            return self.skip_all(lut, text, separators);
         }
         self
     }
 
     // The loop itself, for where there usually is something to skip.
-    pub fn skip_all(
-        self,
-        class: &[u8; 256],
-        trie: &[u8; 512],
-        text: &[u8],
-        separators: bool,
-    ) -> State
-        requires { ⌜ Lent (now class) (now trie) (now text) ⌝ }
+    pub fn skip_all(self, lut: &[u8; 768], text: &[u8], separators: bool) -> State
+        requires { ⌜ Lent (now lut) (now text) ⌝ }
         ensures { λ r. ⌜ r ≡ passed (now (text .entry)) separators self ⌝ }
     {
         let mut state = self;
         while crate::passes(state.kind, separators) {
-            state = state.advance(class, trie, text);
+            state = state.advance(lut, text);
         }
         state
     }
@@ -183,33 +170,31 @@ impl State {
     // skip_comments, and with `separators` skip_trivia: the comments wait. The usual case is apart from the loop here too.
     pub fn skip_comments(
         self,
-        class: &[u8; 256],
-        trie: &[u8; 512],
+        lut: &[u8; 768],
         text: &[u8],
         separators: bool,
         comments: &mut [u32],
     ) -> State
-        requires { ⌜ Lent (now class) (now trie) (now text) ⌝ }
+        requires { ⌜ Lent (now lut) (now text) ⌝ }
         ensures { λ r. ⌜ Keeps (skipCommentsIn (now (text .entry)) separators) self r (now (comments .entry)) (now (comments .exit)) ⌝ }
     {
         if separators {
-            return self.skip_all_comments(class, trie, text, separators, comments);
+            return self.skip_all_comments(lut, text, separators, comments);
         }
         if crate::is_comment(self.kind) {
-            return self.skip_all_comments(class, trie, text, separators, comments);
+            return self.skip_all_comments(lut, text, separators, comments);
         }
         self
     }
 
     fn skip_all_comments(
         self,
-        class: &[u8; 256],
-        trie: &[u8; 512],
+        lut: &[u8; 768],
         text: &[u8],
         separators: bool,
         comments: &mut [u32],
     ) -> State
-        requires { ⌜ Lent (now class) (now trie) (now text) ⌝ }
+        requires { ⌜ Lent (now lut) (now text) ⌝ }
         ensures { λ r. ⌜ Keeps (skipCommentsIn (now (text .entry)) separators) self r (now (comments .entry)) (now (comments .exit)) ⌝ }
     {
         let mut state = self;
@@ -224,7 +209,7 @@ impl State {
                     return state;
                 }
             }
-            state = state.advance(class, trie, text);
+            state = state.advance(lut, text);
         }
     }
 

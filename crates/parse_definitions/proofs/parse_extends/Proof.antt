@@ -10,7 +10,7 @@ returns : tie.Need-returns
 returns c = λ u. ret _ _ _ _ (no _ _ _ _ _ (extends-is _ _ _ _ _ _) (c .if1 .taken))
 
 same-length : tie.Need-same-length
-same-length c = c .before .before .parse-name .kept .1 .1 .1 .1 .1 .1 .0
+same-length c = c .before .before .parse-name .kept .1 .1 .1 .1 .1 .0
 
 returns-2 : tie.Need-returns-2
 returns-2 c = λ u. last _ _ _ _ _ (yes _ _ _ _ _ (extends-is _ _ _ _ _ _) (c .before .before .before .before .before .if1 .left)) (given (nameIn _ _ _ _) _ _ _ _ _ (c .before .before .before .before .advance .ensures) (c .before .before .parse-name .ensures u))

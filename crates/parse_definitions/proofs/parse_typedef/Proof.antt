@@ -7,19 +7,19 @@ use Rattle.parse_definitions.proofs.parse_typedef.Statement.{statement}
 use Rattle.parse_definitions.proofs.parse_typedef.Tie as tie
 
 same-length : tie.Need-same-length
-same-length c = c .before .before .before .before .parse-typed-name .kept .1 .1 .1 .1 .1 .1 .0
+same-length c = c .before .before .before .before .parse-typed-name .kept .1 .1 .1 .1 .1 .0
 
 same-length-2 : tie.Need-same-length-2
-same-length-2 c = c .before .before .before .before .before .before .before .before .begin .kept .1 .1 .1 .1 .0
+same-length-2 c = c .before .before .before .before .before .before .before .before .begin .kept .1 .1 .1 .0
 
 returns : tie.Need-returns
 returns c = off _ _ _ (kept _ _ _ (typedef-is _ _ _ _) _ _ _ (c .before .before .before .before .before .before .before .before .begin .ensures _)) _ _ _ _ _ (c .before .before .before .before .parse-typed-name .ensures _) (c .enum-told .given .1) _ _
 
 same-length-3 : tie.Need-same-length-3
-same-length-3 c = c .before .before .close .kept .0 ∙ c .before .before .before .before .before .before .before .before .before .parse-typed-name .kept .1 .1 .1 .1 .1 .1 .0
+same-length-3 c = c .before .before .close .kept .0 ∙ c .before .before .before .before .before .before .before .before .before .parse-typed-name .kept .1 .1 .1 .1 .1 .0
 
 same-length-4 : tie.Need-same-length-4
-same-length-4 c = c .before .before .before .before .before .before .before .before .before .before .before .before .before .begin .kept .1 .1 .1 .1 .0
+same-length-4 c = c .before .before .before .before .before .before .before .before .before .before .before .before .before .begin .kept .1 .1 .1 .0
 
 returns-2 : tie.Need-returns-2
 returns-2 c = ends _ _ _ _ _ (on _ _ _ (kept _ _ _ (typedef-is _ _ _ _) _ _ _ (c .before .before .before .before .before .before .before .before .before .before .before .before .before .begin .ensures _)) _ _ _ _ (c .before .before .before .before .before .before .before .before .before .parse-typed-name .ensures _) (c .before .before .before .before .before .head .given .1)) (c .before .before .close .ensures _)

@@ -6,7 +6,7 @@ use Rattle.parse_fields.proofs.parse_name.Statement.{statement}
 use Rattle.parse_fields.proofs.parse_name.Tie as tie
 
 same-length : tie.Need-same-length
-same-length c = c .before .before .parse-leaf .kept .1 .1 .1 .1 .1 .1 .0
+same-length c = c .before .before .parse-leaf .kept .1 .1 .1 .1 .1 .0
 
 returns : tie.Need-returns
 returns c = λ u. last _ _ _ _ _ (name-is _ _ _ _ _ _ _) (c .before .before .parse-leaf .ensures u)

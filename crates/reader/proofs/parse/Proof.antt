@@ -1,22 +1,22 @@
 -- `reader::parse` meets its contract.
 use mathlib.Core.Path.{refl, sym, _∙_}
 use native.Mathlib.Omega.{arith}
-use Rattle.token.specs.Tables.{classes, trie}
+use Rattle.token.specs.Tables.{classes, tables, trie}
 use Rattle.reader.proofs.Whole.{parse-unknown, parse-judged, unknown-small}
 use borrow.Author.Needs.{needs}
 use Rattle.reader.proofs.parse.Statement.{statement}
 use Rattle.reader.proofs.parse.Tie as tie
 
 begin-requires : tie.Need-begin-requires
-unfolding classes trie
-begin-requires c κs = record { classed = refl; spelled = refl; short = c .before .before .before .before .before .pre }
+unfolding classes tables trie
+begin-requires c κs = record { tabled = refl; short = c .before .before .before .before .before .pre }
 
 parse-document-requires : tie.Need-parse-document-requires
-unfolding classes trie
-parse-document-requires c κs = record { classed = refl; spelled = refl; short = c .before .before .before .before .before .before .before .before .before .before .pre }
+unfolding classes tables trie
+parse-document-requires c κs = record { tabled = refl; short = c .before .before .before .before .before .before .before .before .before .before .pre }
 
 unrecognized-requires : tie.Need-unrecognized-requires
-unfolding classes trie
+unfolding classes tables trie
 unrecognized-requires c κs = (refl, refl)
 
 cast-refuse : tie.Need-cast-refuse
@@ -27,12 +27,12 @@ cast-refuse c =
 
 returns : tie.Need-returns
 returns c =
-    parse-unknown _ _ _ _ _ _ _ _ (c .before .before .before .before .before .before .before .before .before .before .before .before .before .before .before .before .before .before .before .before .before .before .before .begin .ensures) (c .before .before .before .before .before .before .before .before .before .before .before .before .before .before .before .before .before .before .parse-document .ensures) (c .before .before .before .before .before .before .before .before .before .before .before .before .before .unscanned .ensures .1 _ _) (c .before .before .before .before .before .before .before .before .before .before .before .before .before .before .before .before .before .before .parse-document .kept .1 .1 .1 .1 .0) (c .before .before .before .before .before .before .before .before .before .before .before .before .before .before .before .before .before .before .parse-document .kept .1 .1 .1 .1 .1 .0)
+    parse-unknown _ _ _ _ _ _ _ _ (c .before .before .before .before .before .before .before .before .before .before .before .before .before .before .before .before .before .before .before .before .before .before .before .begin .ensures) (c .before .before .before .before .before .before .before .before .before .before .before .before .before .before .before .before .before .before .parse-document .ensures) (c .before .before .before .before .before .before .before .before .before .before .before .before .before .unscanned .ensures .1 _ _) (c .before .before .before .before .before .before .before .before .before .before .before .before .before .before .before .before .before .before .parse-document .kept .1 .1 .1 .0) (c .before .before .before .before .before .before .before .before .before .before .before .before .before .before .before .before .before .before .parse-document .kept .1 .1 .1 .1 .0)
     _ _ (sym (c .before .before .before .before .before .before .before .before .before .before .unrecognized .ensures) ∙ c .before .before .before .before .before .before .before .before .at .given .1) (c .before .before .before .before .refuse .ensures)
 
 returns-2 : tie.Need-returns-2
 returns-2 c =
-    parse-judged _ _ _ _ _ _ _ _ (c .before .before .before .before .before .before .before .before .before .before .before .before .before .before .before .before .before .before .before .before .before .before .begin .ensures) (c .before .before .before .before .before .before .before .before .before .before .before .before .before .before .before .before .before .parse-document .ensures) (c .before .before .before .before .before .before .before .before .before .before .before .before .unscanned .ensures .1 _ _) (c .before .before .before .before .before .before .before .before .before .before .before .before .before .before .before .before .before .parse-document .kept .1 .1 .1 .1 .0) (c .before .before .before .before .before .before .before .before .before .before .before .before .before .before .before .before .before .parse-document .kept .1 .1 .1 .1 .1 .0)
+    parse-judged _ _ _ _ _ _ _ _ (c .before .before .before .before .before .before .before .before .before .before .before .before .before .before .before .before .before .before .before .before .before .before .begin .ensures) (c .before .before .before .before .before .before .before .before .before .before .before .before .before .before .before .before .before .parse-document .ensures) (c .before .before .before .before .before .before .before .before .before .before .before .before .unscanned .ensures .1 _ _) (c .before .before .before .before .before .before .before .before .before .before .before .before .before .before .before .before .before .parse-document .kept .1 .1 .1 .0) (c .before .before .before .before .before .before .before .before .before .before .before .before .before .before .before .before .before .parse-document .kept .1 .1 .1 .1 .0)
     _ (sym (c .before .before .before .before .before .before .before .before .before .unrecognized .ensures) ∙ c .before .before .before .before .before .before .before .enum-told .given .1) (c .before .before .before .before .judge .ensures)
 
 pub parse-spec : {M : Type 1} → statement M

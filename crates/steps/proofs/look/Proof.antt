@@ -26,7 +26,7 @@ next-token-requires : tie.Need-next-token-requires
 next-token-requires c κs =
     let l = c .before .before .before .before in
     let p = l .before .before .pre in
-    (p .classed, p .spelled, p .short, record { lines = omega (arith, c .if2 .left); line-begun = rw (l .lexer-at .ensures) (begun _); below = omega (arith, c .before .before .if1 .left) })
+    (p .tabled, p .short, record { lines = omega (arith, c .if2 .left); line-begun = rw (l .lexer-at .ensures) (begun _); below = omega (arith, c .before .before .if1 .left) })
 
 returns-3 : tie.Need-returns-3
 unfolding lookAt

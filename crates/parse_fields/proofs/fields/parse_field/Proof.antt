@@ -8,7 +8,7 @@ use Rattle.parse_fields.proofs.fields.parse_field.Statement.{statement}
 use Rattle.parse_fields.proofs.fields.parse_field.Tie as tie
 
 same-length : tie.Need-same-length
-same-length c = c .before .before .before .before .parse-field-id .kept .1 .1 .1 .1 .1 .0
+same-length c = c .before .before .before .before .parse-field-id .kept .1 .1 .1 .1 .0
 
 same-length-2 : tie.Need-same-length-2
 same-length-2 c = c .before .before .before .before .before .before .before .before .own .kept .1 .1 .0
@@ -20,7 +20,7 @@ parse-field-head-requires : tie.Need-parse-field-head-requires
 parse-field-head-requires c κs = c .before .before .before .before .before .before .before .before .before .before .before .before .before .before .before .before .pre
 
 same-length-3 : tie.Need-same-length-3
-same-length-3 c = c .before .before .before .before .parse-field-head .kept .1 .1 .1 .1 .1 .0 ∙ c .before .before .before .before .before .before .before .before .before .before .before .parse-field-id .kept .1 .1 .1 .1 .1 .0
+same-length-3 c = c .before .before .before .before .parse-field-head .kept .1 .1 .1 .1 .0 ∙ c .before .before .before .before .before .before .before .before .before .before .before .parse-field-id .kept .1 .1 .1 .1 .0
 
 same-length-4 : tie.Need-same-length-4
 same-length-4 c = c .before .before .before .before .before .before .before .before .before .before .before .before .before .before .before .own .kept .1 .1 .0
@@ -32,7 +32,7 @@ parse-field-tail-requires : tie.Need-parse-field-tail-requires
 parse-field-tail-requires c κs = c .before .before .before .before .before .before .before .before .before .before .before .before .before .before .before .before .before .before .before .before .before .before .before .pre
 
 same-length-5 : tie.Need-same-length-5
-same-length-5 c = c .before .before .before .before .parse-field-tail .kept .1 .1 .1 .1 .1 .0 ∙ c .before .before .before .before .before .before .before .before .before .before .before .parse-field-head .kept .1 .1 .1 .1 .1 .0 ∙ c .before .before .before .before .before .before .before .before .before .before .before .before .before .before .before .before .before .before .parse-field-id .kept .1 .1 .1 .1 .1 .0
+same-length-5 c = c .before .before .before .before .parse-field-tail .kept .1 .1 .1 .1 .0 ∙ c .before .before .before .before .before .before .before .before .before .before .before .parse-field-head .kept .1 .1 .1 .1 .0 ∙ c .before .before .before .before .before .before .before .before .before .before .before .before .before .before .before .before .before .before .parse-field-id .kept .1 .1 .1 .1 .0
 
 same-length-6 : tie.Need-same-length-6
 same-length-6 c = c .before .before .before .before .before .before .before .before .before .before .before .before .before .before .before .before .before .before .before .before .before .before .own .kept .1 .1 .0
@@ -41,7 +41,7 @@ returns-3 : tie.Need-returns-3
 returns-3 c = off _ _ _ (on _ _ _ (on _ _ _ (kept _ _ _ (field-is _ _ _ _ _ _ _) _ _ _ (given (ownIn _) _ _ _ _ _ (c .before .before .before .before .before .before .before .before .before .before .before .before .before .before .before .before .before .before .before .before .before .before .before .before .«open» .ensures) (c .before .before .before .before .before .before .before .before .before .before .before .before .before .before .before .before .before .before .before .before .before .before .own .ensures _))) _ _ _ _ (c .before .before .before .before .before .before .before .before .before .before .before .before .before .before .before .before .before .before .parse-field-id .ensures _) (c .before .before .before .before .before .before .before .before .before .before .before .before .before .before .id .given .1)) _ _ _ _ (c .before .before .before .before .before .before .before .before .before .before .before .parse-field-head .ensures _) (c .before .before .before .before .before .before .before .head .given .1)) _ _ _ _ _ (c .before .before .before .before .parse-field-tail .ensures _) (c .enum-told3 .given .1) _ _
 
 same-length-7 : tie.Need-same-length-7
-same-length-7 c = c .before .before .put-node .kept .1 .0 ∙ c .before .before .before .before .before .before .before .before .before .before .before .before .parse-field-tail .kept .1 .1 .1 .1 .1 .0 ∙ c .before .before .before .before .before .before .before .before .before .before .before .before .before .before .before .before .before .before .before .parse-field-head .kept .1 .1 .1 .1 .1 .0 ∙ c .before .before .before .before .before .before .before .before .before .before .before .before .before .before .before .before .before .before .before .before .before .before .before .before .before .before .parse-field-id .kept .1 .1 .1 .1 .1 .0
+same-length-7 c = c .before .before .put-node .kept .1 .0 ∙ c .before .before .before .before .before .before .before .before .before .before .before .before .parse-field-tail .kept .1 .1 .1 .1 .0 ∙ c .before .before .before .before .before .before .before .before .before .before .before .before .before .before .before .before .before .before .before .parse-field-head .kept .1 .1 .1 .1 .0 ∙ c .before .before .before .before .before .before .before .before .before .before .before .before .before .before .before .before .before .before .before .before .before .before .before .before .before .before .parse-field-id .kept .1 .1 .1 .1 .0
 
 same-length-8 : tie.Need-same-length-8
 same-length-8 c = c .before .before .before .before .before .before .before .before .before .before .before .before .before .before .before .before .before .before .before .before .before .before .before .before .before .before .before .before .before .before .own .kept .1 .1 .0

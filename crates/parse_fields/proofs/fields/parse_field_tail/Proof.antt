@@ -7,13 +7,13 @@ use Rattle.parse_fields.proofs.fields.parse_field_tail.Statement.{state
 use Rattle.parse_fields.proofs.fields.parse_field_tail.Tie as tie
 
 same-length : tie.Need-same-length
-same-length c = c .before .before .before .before .parse-default .kept .1 .1 .1 .1 .1 .0
+same-length c = c .before .before .before .before .parse-default .kept .1 .1 .1 .1 .0
 
 returns : tie.Need-returns
 returns c = λ u. off _ _ _ (field-tail-is _ _ _ _ _ _) _ _ _ _ _ (c .before .before .before .before .parse-default .ensures u) (c .enum-told .given .1) _ _
 
 same-length-2 : tie.Need-same-length-2
-same-length-2 c = c .before .before .parse-annotations .kept .1 .1 .1 .1 .1 .0 ∙ c .before .before .before .before .before .before .before .before .before .parse-default .kept .1 .1 .1 .1 .1 .0
+same-length-2 c = c .before .before .parse-annotations .kept .1 .1 .1 .1 .0 ∙ c .before .before .before .before .before .before .before .before .before .parse-default .kept .1 .1 .1 .1 .0
 
 returns-2 : tie.Need-returns-2
 returns-2 c = λ u. last _ _ _ _ _ (on _ _ _ (field-tail-is _ _ _ _ _ _) _ _ _ _ (c .before .before .before .before .before .before .before .before .before .parse-default .ensures u) (c .before .before .before .before .before .read .given .1)) (c .before .before .parse-annotations .ensures u)

@@ -7,7 +7,7 @@ use Rattle.parse_members.proofs.functions.parse_return_type.Statement.{
 use Rattle.parse_members.proofs.functions.parse_return_type.Tie as tie
 
 same-length : tie.Need-same-length
-same-length c = c .before .before .parse-type .kept .1 .1 .1 .1 .1 .1 .0
+same-length c = c .before .before .parse-type .kept .1 .1 .1 .1 .1 .0
 
 returns : tie.Need-returns
 returns c = λ u. last _ _ _ _ _ (no _ _ _ _ _ (return-type-is _ _ _ _ _ _) (c .before .before .before .before .if1 .taken)) (c .before .before .parse-type .ensures u)

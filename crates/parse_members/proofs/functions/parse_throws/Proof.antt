@@ -10,10 +10,10 @@ returns : tie.Need-returns
 returns c = ret _ _ _ _ (no _ _ _ _ _ (throws-is _ _ _ _ _ _) (c .if1 .taken))
 
 same-length : tie.Need-same-length
-same-length c = c .before .before .before .before .parse-fields .kept .1 .1 .1 .1 .1 .1 .0
+same-length c = c .before .before .before .before .parse-fields .kept .1 .1 .1 .1 .1 .0
 
 same-length-2 : tie.Need-same-length-2
-same-length-2 c = c .before .before .before .before .parse-fields .kept .1 .1 .1 .1 .1 .1 .1 .0
+same-length-2 c = c .before .before .before .before .parse-fields .kept .1 .1 .1 .1 .1 .1 .0
 
 returns-2 : tie.Need-returns-2
 returns-2 c = last _ _ _ _ _ (yes _ _ _ _ _ (throws-is _ _ _ _ _ _) (c .before .before .before .before .before .before .before .before .if1 .left)) (given (fieldsIn _ _ _ _ _ _) _ _ _ _ _ (c .before .before .before .before .before .before .before .advance .ensures) (c .before .before .before .before .parse-fields .ensures))

@@ -29,32 +29,32 @@ use Rattle.parse_values.proofs.types.leaf_type.Reads as leaf-type-reads
 use Rattle.parse_values.proofs.types.+parse_complex_type+parse_contained+parse_type.{statement}
 use Rattle.parse_values.proofs.types.+parse_complex_type+parse_contained+parse_type.Tie.{close}
 
-abbrev μ-parse-complex-type : Measures 4 parse-complex-type-kinds.ps ℕ
-μ-parse-complex-type κs a = 3 * a .1 .1 .1 .1 .1 .0 + 2
+abbrev μ-parse-complex-type : Measures 3 parse-complex-type-kinds.ps ℕ
+μ-parse-complex-type κs a = 3 * a .1 .1 .1 .1 .0 + 2
 
-abbrev μ-parse-contained : Measures 4 parse-contained-kinds.ps ℕ
-μ-parse-contained κs a = 3 * a .1 .1 .1 .1 .1 .0 + 1
+abbrev μ-parse-contained : Measures 3 parse-contained-kinds.ps ℕ
+μ-parse-contained κs a = 3 * a .1 .1 .1 .1 .0 + 1
 
-abbrev μ-parse-type : Measures 4 parse-type-kinds.ps ℕ
-μ-parse-type κs a = 3 * a .1 .1 .1 .1 .0
+abbrev μ-parse-type : Measures 3 parse-type-kinds.ps ℕ
+μ-parse-type κs a = 3 * a .1 .1 .1 .0
 
-abbrev parse-complex-type-at : ℕ → In 4 parse-complex-type-kinds.ps
-parse-complex-type-at t = and 4 parse-complex-type-kinds.ps (is 4 parse-complex-type-kinds.ps μ-parse-complex-type t) parse-complex-type.Pre
+abbrev parse-complex-type-at : ℕ → In 3 parse-complex-type-kinds.ps
+parse-complex-type-at t = and 3 parse-complex-type-kinds.ps (is 3 parse-complex-type-kinds.ps μ-parse-complex-type t) parse-complex-type.Pre
 
-abbrev parse-complex-type-below : ℕ → In 4 parse-complex-type-kinds.ps
-parse-complex-type-below t = and 4 parse-complex-type-kinds.ps (falls 4 parse-complex-type-kinds.ps _<_ μ-parse-complex-type t) parse-complex-type.Pre
+abbrev parse-complex-type-below : ℕ → In 3 parse-complex-type-kinds.ps
+parse-complex-type-below t = and 3 parse-complex-type-kinds.ps (falls 3 parse-complex-type-kinds.ps _<_ μ-parse-complex-type t) parse-complex-type.Pre
 
-abbrev parse-contained-at : ℕ → In 4 parse-contained-kinds.ps
-parse-contained-at t = and 4 parse-contained-kinds.ps (is 4 parse-contained-kinds.ps μ-parse-contained t) parse-contained.Pre
+abbrev parse-contained-at : ℕ → In 3 parse-contained-kinds.ps
+parse-contained-at t = and 3 parse-contained-kinds.ps (is 3 parse-contained-kinds.ps μ-parse-contained t) parse-contained.Pre
 
-abbrev parse-contained-below : ℕ → In 4 parse-contained-kinds.ps
-parse-contained-below t = and 4 parse-contained-kinds.ps (falls 4 parse-contained-kinds.ps _<_ μ-parse-contained t) parse-contained.Pre
+abbrev parse-contained-below : ℕ → In 3 parse-contained-kinds.ps
+parse-contained-below t = and 3 parse-contained-kinds.ps (falls 3 parse-contained-kinds.ps _<_ μ-parse-contained t) parse-contained.Pre
 
-abbrev parse-type-at : ℕ → In 4 parse-type-kinds.ps
-parse-type-at t = and 4 parse-type-kinds.ps (is 4 parse-type-kinds.ps μ-parse-type t) parse-type.Pre
+abbrev parse-type-at : ℕ → In 3 parse-type-kinds.ps
+parse-type-at t = and 3 parse-type-kinds.ps (is 3 parse-type-kinds.ps μ-parse-type t) parse-type.Pre
 
-abbrev parse-type-below : ℕ → In 4 parse-type-kinds.ps
-parse-type-below t = and 4 parse-type-kinds.ps (falls 4 parse-type-kinds.ps _<_ μ-parse-type t) parse-type.Pre
+abbrev parse-type-below : ℕ → In 3 parse-type-kinds.ps
+parse-type-below t = and 3 parse-type-kinds.ps (falls 3 parse-type-kinds.ps _<_ μ-parse-type t) parse-type.Pre
 
 abbrev parse-complex-type-calls : ℕ → parse-complex-type-lts.Claims
 parse-complex-type-calls t = (open-reads.Asked, open-reads.Learnt, expect-reads.Asked, expect-reads.Learnt, parse-contained-below t, parse-contained.Post, put-node-reads.Asked, put-node-reads.Learnt)

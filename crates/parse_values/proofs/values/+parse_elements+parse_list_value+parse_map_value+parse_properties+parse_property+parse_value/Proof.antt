@@ -49,59 +49,59 @@ use Rattle.parse_values.proofs.values.leaf_value.Reads as leaf-value-re
 use Rattle.parse_values.proofs.values.+parse_elements+parse_list_value+parse_map_value+parse_properties+parse_property+parse_value.{statement}
 use Rattle.parse_values.proofs.values.+parse_elements+parse_list_value+parse_map_value+parse_properties+parse_property+parse_value.Tie.{close}
 
-abbrev μ-parse-elements : Measures 4 parse-elements-kinds.ps ℕ
-μ-parse-elements κs a = 4 * (a .1 .1 .1 .1 .0 + bytesLeft (a .1 .1 .0 .now) (a .1 .1 .1 .0)) + 1
+abbrev μ-parse-elements : Measures 3 parse-elements-kinds.ps ℕ
+μ-parse-elements κs a = 4 * (a .1 .1 .1 .0 + bytesLeft (a .1 .0 .now) (a .1 .1 .0)) + 1
 
-abbrev μ-parse-list-value : Measures 4 parse-list-value-kinds.ps ℕ
-μ-parse-list-value κs a = 4 * (a .1 .1 .1 .1 .0 + bytesLeft (a .1 .1 .0 .now) (a .1 .1 .1 .0)) + 2
+abbrev μ-parse-list-value : Measures 3 parse-list-value-kinds.ps ℕ
+μ-parse-list-value κs a = 4 * (a .1 .1 .1 .0 + bytesLeft (a .1 .0 .now) (a .1 .1 .0)) + 2
 
-abbrev μ-parse-map-value : Measures 4 parse-map-value-kinds.ps ℕ
-μ-parse-map-value κs a = 4 * (a .1 .1 .1 .1 .0 + bytesLeft (a .1 .1 .0 .now) (a .1 .1 .1 .0)) + 3
+abbrev μ-parse-map-value : Measures 3 parse-map-value-kinds.ps ℕ
+μ-parse-map-value κs a = 4 * (a .1 .1 .1 .0 + bytesLeft (a .1 .0 .now) (a .1 .1 .0)) + 3
 
-abbrev μ-parse-properties : Measures 4 parse-properties-kinds.ps ℕ
-μ-parse-properties κs a = 4 * (a .1 .1 .1 .1 .0 + bytesLeft (a .1 .1 .0 .now) (a .1 .1 .1 .0)) + 2
+abbrev μ-parse-properties : Measures 3 parse-properties-kinds.ps ℕ
+μ-parse-properties κs a = 4 * (a .1 .1 .1 .0 + bytesLeft (a .1 .0 .now) (a .1 .1 .0)) + 2
 
-abbrev μ-parse-property : Measures 4 parse-property-kinds.ps ℕ
-μ-parse-property κs a = 4 * (a .1 .1 .1 .1 .0 + bytesLeft (a .1 .1 .0 .now) (a .1 .1 .1 .0)) + 1
+abbrev μ-parse-property : Measures 3 parse-property-kinds.ps ℕ
+μ-parse-property κs a = 4 * (a .1 .1 .1 .0 + bytesLeft (a .1 .0 .now) (a .1 .1 .0)) + 1
 
-abbrev μ-parse-value : Measures 4 parse-value-kinds.ps ℕ
-μ-parse-value κs a = 4 * (a .1 .1 .1 .1 .0 + bytesLeft (a .1 .1 .0 .now) (a .1 .1 .1 .0))
+abbrev μ-parse-value : Measures 3 parse-value-kinds.ps ℕ
+μ-parse-value κs a = 4 * (a .1 .1 .1 .0 + bytesLeft (a .1 .0 .now) (a .1 .1 .0))
 
-abbrev parse-elements-at : ℕ → In 4 parse-elements-kinds.ps
-parse-elements-at t = and 4 parse-elements-kinds.ps (is 4 parse-elements-kinds.ps μ-parse-elements t) parse-elements.Pre
+abbrev parse-elements-at : ℕ → In 3 parse-elements-kinds.ps
+parse-elements-at t = and 3 parse-elements-kinds.ps (is 3 parse-elements-kinds.ps μ-parse-elements t) parse-elements.Pre
 
-abbrev parse-elements-below : ℕ → In 4 parse-elements-kinds.ps
-parse-elements-below t = and 4 parse-elements-kinds.ps (falls 4 parse-elements-kinds.ps _<_ μ-parse-elements t) parse-elements.Pre
+abbrev parse-elements-below : ℕ → In 3 parse-elements-kinds.ps
+parse-elements-below t = and 3 parse-elements-kinds.ps (falls 3 parse-elements-kinds.ps _<_ μ-parse-elements t) parse-elements.Pre
 
-abbrev parse-list-value-at : ℕ → In 4 parse-list-value-kinds.ps
-parse-list-value-at t = and 4 parse-list-value-kinds.ps (is 4 parse-list-value-kinds.ps μ-parse-list-value t) parse-list-value.Pre
+abbrev parse-list-value-at : ℕ → In 3 parse-list-value-kinds.ps
+parse-list-value-at t = and 3 parse-list-value-kinds.ps (is 3 parse-list-value-kinds.ps μ-parse-list-value t) parse-list-value.Pre
 
-abbrev parse-list-value-below : ℕ → In 4 parse-list-value-kinds.ps
-parse-list-value-below t = and 4 parse-list-value-kinds.ps (falls 4 parse-list-value-kinds.ps _<_ μ-parse-list-value t) parse-list-value.Pre
+abbrev parse-list-value-below : ℕ → In 3 parse-list-value-kinds.ps
+parse-list-value-below t = and 3 parse-list-value-kinds.ps (falls 3 parse-list-value-kinds.ps _<_ μ-parse-list-value t) parse-list-value.Pre
 
-abbrev parse-map-value-at : ℕ → In 4 parse-map-value-kinds.ps
-parse-map-value-at t = and 4 parse-map-value-kinds.ps (is 4 parse-map-value-kinds.ps μ-parse-map-value t) parse-map-value.Pre
+abbrev parse-map-value-at : ℕ → In 3 parse-map-value-kinds.ps
+parse-map-value-at t = and 3 parse-map-value-kinds.ps (is 3 parse-map-value-kinds.ps μ-parse-map-value t) parse-map-value.Pre
 
-abbrev parse-map-value-below : ℕ → In 4 parse-map-value-kinds.ps
-parse-map-value-below t = and 4 parse-map-value-kinds.ps (falls 4 parse-map-value-kinds.ps _<_ μ-parse-map-value t) parse-map-value.Pre
+abbrev parse-map-value-below : ℕ → In 3 parse-map-value-kinds.ps
+parse-map-value-below t = and 3 parse-map-value-kinds.ps (falls 3 parse-map-value-kinds.ps _<_ μ-parse-map-value t) parse-map-value.Pre
 
-abbrev parse-properties-at : ℕ → In 4 parse-properties-kinds.ps
-parse-properties-at t = and 4 parse-properties-kinds.ps (is 4 parse-properties-kinds.ps μ-parse-properties t) parse-properties.Pre
+abbrev parse-properties-at : ℕ → In 3 parse-properties-kinds.ps
+parse-properties-at t = and 3 parse-properties-kinds.ps (is 3 parse-properties-kinds.ps μ-parse-properties t) parse-properties.Pre
 
-abbrev parse-properties-below : ℕ → In 4 parse-properties-kinds.ps
-parse-properties-below t = and 4 parse-properties-kinds.ps (falls 4 parse-properties-kinds.ps _<_ μ-parse-properties t) parse-properties.Pre
+abbrev parse-properties-below : ℕ → In 3 parse-properties-kinds.ps
+parse-properties-below t = and 3 parse-properties-kinds.ps (falls 3 parse-properties-kinds.ps _<_ μ-parse-properties t) parse-properties.Pre
 
-abbrev parse-property-at : ℕ → In 4 parse-property-kinds.ps
-parse-property-at t = and 4 parse-property-kinds.ps (is 4 parse-property-kinds.ps μ-parse-property t) parse-property.Pre
+abbrev parse-property-at : ℕ → In 3 parse-property-kinds.ps
+parse-property-at t = and 3 parse-property-kinds.ps (is 3 parse-property-kinds.ps μ-parse-property t) parse-property.Pre
 
-abbrev parse-property-below : ℕ → In 4 parse-property-kinds.ps
-parse-property-below t = and 4 parse-property-kinds.ps (falls 4 parse-property-kinds.ps _<_ μ-parse-property t) parse-property.Pre
+abbrev parse-property-below : ℕ → In 3 parse-property-kinds.ps
+parse-property-below t = and 3 parse-property-kinds.ps (falls 3 parse-property-kinds.ps _<_ μ-parse-property t) parse-property.Pre
 
-abbrev parse-value-at : ℕ → In 4 parse-value-kinds.ps
-parse-value-at t = and 4 parse-value-kinds.ps (is 4 parse-value-kinds.ps μ-parse-value t) parse-value.Pre
+abbrev parse-value-at : ℕ → In 3 parse-value-kinds.ps
+parse-value-at t = and 3 parse-value-kinds.ps (is 3 parse-value-kinds.ps μ-parse-value t) parse-value.Pre
 
-abbrev parse-value-below : ℕ → In 4 parse-value-kinds.ps
-parse-value-below t = and 4 parse-value-kinds.ps (falls 4 parse-value-kinds.ps _<_ μ-parse-value t) parse-value.Pre
+abbrev parse-value-below : ℕ → In 3 parse-value-kinds.ps
+parse-value-below t = and 3 parse-value-kinds.ps (falls 3 parse-value-kinds.ps _<_ μ-parse-value t) parse-value.Pre
 
 abbrev parse-elements-calls : ℕ → parse-elements-lts.Claims
 parse-elements-calls t = (skip-all-reads.Asked, skip-all-reads.Learnt, take-reads.Asked, take-reads.Learnt, parse-value-below t, parse-value.Post)
@@ -122,16 +122,16 @@ abbrev parse-value-calls : ℕ → parse-value-lts.Claims
 parse-value-calls t = (take-reads.Asked, take-reads.Learnt, leaf-value-reads.Asked, leaf-value-reads.Learnt, put-leaf-reads.Asked, put-leaf-reads.Learnt, is-opener-reads.Asked, is-opener-reads.Learnt, refuse-reads.Asked, refuse-reads.Learnt, parse-list-value-below t, parse-list-value.Post, parse-map-value-below t, parse-map-value.Post)
 
 abbrev parse-elements-Inv-loop : parse-elements-lts.InvT-loop
-parse-elements-Inv-loop class trie text depth parent rest₀ state₀ rest state = ((u : List ℕ) → elementsIn text (valueIn text depth (parent .base) (parent .node)) state₀ rest₀ u ≡ elementsIn text (valueIn text depth (parent .base) (parent .node)) state rest u) × (length rest ≡ length rest₀) × (bytesLeft text state ≤ bytesLeft text state₀)
+parse-elements-Inv-loop lut text depth parent rest₀ state₀ rest state = ((u : List ℕ) → elementsIn text (valueIn text depth (parent .base) (parent .node)) state₀ rest₀ u ≡ elementsIn text (valueIn text depth (parent .base) (parent .node)) state rest u) × (length rest ≡ length rest₀) × (bytesLeft text state ≤ bytesLeft text state₀)
 
 abbrev parse-elements-μ-loop : parse-elements-lts.MeasureT-loop
-parse-elements-μ-loop class trie text depth parent rest₀ state₀ rest state = bytesLeft text state
+parse-elements-μ-loop lut text depth parent rest₀ state₀ rest state = bytesLeft text state
 
 abbrev parse-properties-Inv-loop : parse-properties-lts.InvT-loop
-parse-properties-Inv-loop class trie text depth parent rest₀ state₀ rest state = ((u : List ℕ) → propertiesIn text (propertyIn text (λ q. valueIn text depth (parent .base) q) (parent .base) (parent .node)) state₀ rest₀ u ≡ propertiesIn text (propertyIn text (λ q. valueIn text depth (parent .base) q) (parent .base) (parent .node)) state rest u) × (length rest ≡ length rest₀) × (bytesLeft text state ≤ bytesLeft text state₀)
+parse-properties-Inv-loop lut text depth parent rest₀ state₀ rest state = ((u : List ℕ) → propertiesIn text (propertyIn text (λ q. valueIn text depth (parent .base) q) (parent .base) (parent .node)) state₀ rest₀ u ≡ propertiesIn text (propertyIn text (λ q. valueIn text depth (parent .base) q) (parent .base) (parent .node)) state rest u) × (length rest ≡ length rest₀) × (bytesLeft text state ≤ bytesLeft text state₀)
 
 abbrev parse-properties-μ-loop : parse-properties-lts.MeasureT-loop
-parse-properties-μ-loop class trie text depth parent rest₀ state₀ rest state = bytesLeft text state
+parse-properties-μ-loop lut text depth parent rest₀ state₀ rest state = bytesLeft text state
 
 module _ (t : ℕ) where
   parse-elements-loop-holds : parse-elements-lts.Need-loop-holds (parse-elements-calls t) (parse-elements-at t) parse-elements.Post parse-elements-Inv-loop parse-elements-μ-loop
@@ -159,7 +159,7 @@ module _ (t : ℕ) where
   parse-elements-loop-less c = omega (arith, both-left _ _ _ _ (c .before .before .before .before .before .before .before .before .before .before .skip-all .ensures) (c .before .before .before .before .before .before .before .before .before .skip-all2 .ensures), quiet-left _ _ (value-falls _ _ _ _) _ _ _ _ _ (c .before .before .before .before .before .parse-value .ensures) (c .before .read .given .1))
 
   parse-elements-loop-again : parse-elements-lts.Need-loop-again (parse-elements-calls t) (parse-elements-at t) parse-elements.Post parse-elements-Inv-loop parse-elements-μ-loop
-  parse-elements-loop-again c = (λ u. on _ _ _ (stays _ _ _ _ _ (elements-turn _ _ (value-falls _ _ _ _) _ _ _ _ _ _ (c .before .before .before .before .before .before .before .before .before .before .before .loop .inv .0 _) (c .before .before .before .before .before .before .before .before .before .before .skip-all .ensures) (c .before .before .before .before .before .before .before .before .before .skip-all2 .ensures)) (c .before .before .before .before .before .before .before .if1 .left)) _ _ _ _ (c .before .before .before .before .before .parse-value .ensures _) (c .before .read .given .1), c .before .before .before .before .before .parse-value .kept .1 .1 .1 .1 .1 .1 .0 ∙ c .before .before .before .before .before .before .before .before .before .before .before .loop .inv .1, omega (arith, c .before .before .before .before .before .before .before .before .before .before .before .loop .inv .2, both-left _ _ _ _ (c .before .before .before .before .before .before .before .before .before .before .skip-all .ensures) (c .before .before .before .before .before .before .before .before .before .skip-all2 .ensures), quiet-left _ _ (value-falls _ _ _ _) _ _ _ _ _ (c .before .before .before .before .before .parse-value .ensures) (c .before .read .given .1)))
+  parse-elements-loop-again c = (λ u. on _ _ _ (stays _ _ _ _ _ (elements-turn _ _ (value-falls _ _ _ _) _ _ _ _ _ _ (c .before .before .before .before .before .before .before .before .before .before .before .loop .inv .0 _) (c .before .before .before .before .before .before .before .before .before .before .skip-all .ensures) (c .before .before .before .before .before .before .before .before .before .skip-all2 .ensures)) (c .before .before .before .before .before .before .before .if1 .left)) _ _ _ _ (c .before .before .before .before .before .parse-value .ensures _) (c .before .read .given .1), c .before .before .before .before .before .parse-value .kept .1 .1 .1 .1 .1 .0 ∙ c .before .before .before .before .before .before .before .before .before .before .before .loop .inv .1, omega (arith, c .before .before .before .before .before .before .before .before .before .before .before .loop .inv .2, both-left _ _ _ _ (c .before .before .before .before .before .before .before .before .before .before .skip-all .ensures) (c .before .before .before .before .before .before .before .before .before .skip-all2 .ensures), quiet-left _ _ (value-falls _ _ _ _) _ _ _ _ _ (c .before .before .before .before .before .parse-value .ensures) (c .before .read .given .1)))
 
   parse-list-value-parse-elements-requires : parse-list-value-lts.Need-parse-elements-requires (parse-list-value-calls t) (parse-list-value-at t) parse-list-value.Post
   parse-list-value-parse-elements-requires c κs = (omega (arith, c .before .before .before .before .pre .0, opened-by (c .before .before .before .before .args .text .now) _ _ (c .before .«open» .ensures)), c .before .before .before .before .pre .1)
@@ -204,7 +204,7 @@ module _ (t : ℕ) where
   parse-properties-loop-less c = omega (arith, both-left _ _ _ _ (c .before .before .before .before .before .before .before .before .before .before .skip-all .ensures) (c .before .before .before .before .before .before .before .before .before .skip-all2 .ensures), quiet-left _ _ (property-falls _ _ (λ q. value-falls _ _ _ q) _ _) _ _ _ _ _ (c .before .before .before .before .before .parse-property .ensures) (c .before .read .given .1))
 
   parse-properties-loop-again : parse-properties-lts.Need-loop-again (parse-properties-calls t) (parse-properties-at t) parse-properties.Post parse-properties-Inv-loop parse-properties-μ-loop
-  parse-properties-loop-again c = (λ u. on _ _ _ (stays _ _ _ _ _ (properties-turn _ _ (property-falls _ _ (λ q. value-falls _ _ _ q) _ _) _ _ _ _ _ _ (c .before .before .before .before .before .before .before .before .before .before .before .loop .inv .0 _) (c .before .before .before .before .before .before .before .before .before .before .skip-all .ensures) (c .before .before .before .before .before .before .before .before .before .skip-all2 .ensures)) (c .before .before .before .before .before .before .before .if1 .left)) _ _ _ _ (c .before .before .before .before .before .parse-property .ensures _) (c .before .read .given .1), c .before .before .before .before .before .parse-property .kept .1 .1 .1 .1 .1 .1 .0 ∙ c .before .before .before .before .before .before .before .before .before .before .before .loop .inv .1, omega (arith, c .before .before .before .before .before .before .before .before .before .before .before .loop .inv .2, both-left _ _ _ _ (c .before .before .before .before .before .before .before .before .before .before .skip-all .ensures) (c .before .before .before .before .before .before .before .before .before .skip-all2 .ensures), quiet-left _ _ (property-falls _ _ (λ q. value-falls _ _ _ q) _ _) _ _ _ _ _ (c .before .before .before .before .before .parse-property .ensures) (c .before .read .given .1)))
+  parse-properties-loop-again c = (λ u. on _ _ _ (stays _ _ _ _ _ (properties-turn _ _ (property-falls _ _ (λ q. value-falls _ _ _ q) _ _) _ _ _ _ _ _ (c .before .before .before .before .before .before .before .before .before .before .before .loop .inv .0 _) (c .before .before .before .before .before .before .before .before .before .before .skip-all .ensures) (c .before .before .before .before .before .before .before .before .before .skip-all2 .ensures)) (c .before .before .before .before .before .before .before .if1 .left)) _ _ _ _ (c .before .before .before .before .before .parse-property .ensures _) (c .before .read .given .1), c .before .before .before .before .before .parse-property .kept .1 .1 .1 .1 .1 .0 ∙ c .before .before .before .before .before .before .before .before .before .before .before .loop .inv .1, omega (arith, c .before .before .before .before .before .before .before .before .before .before .before .loop .inv .2, both-left _ _ _ _ (c .before .before .before .before .before .before .before .before .before .before .skip-all .ensures) (c .before .before .before .before .before .before .before .before .before .skip-all2 .ensures), quiet-left _ _ (property-falls _ _ (λ q. value-falls _ _ _ q) _ _) _ _ _ _ _ (c .before .before .before .before .before .parse-property .ensures) (c .before .read .given .1)))
 
   parse-property-parse-value-requires : parse-property-lts.Need-parse-value-requires (parse-property-calls t) (parse-property-at t) parse-property.Post
   parse-property-parse-value-requires c κs = (omega (arith, c .before .before .before .before .pre .0, opened-by (c .before .before .before .before .args .text .now) _ _ (c .before .«open» .ensures)), c .before .before .before .before .pre .1)
@@ -225,7 +225,7 @@ module _ (t : ℕ) where
   parse-property-returns-3 c = λ u. off _ _ _ (on _ _ _ (on _ _ _ (property-is _ _ _ _ _ _ _ refl) _ _ _ _ (given (valueIn _ _ _ _) _ _ _ _ _ (c .before .before .before .before .before .before .before .before .before .before .before .before .before .before .before .before .before .«open» .ensures) (c .before .before .before .before .before .before .before .before .before .before .before .before .before .before .before .parse-value .ensures _)) (c .before .before .before .before .before .before .before .before .before .before .before .first .given .1)) _ _ _ _ (c .before .before .before .before .before .before .before .before .before .expect .ensures _ _) (c .before .before .before .before .before .before .before .colon .given .1)) _ _ _ _ _ (c .before .before .before .before .parse-value2 .ensures _) (c .enum-told3 .given .1) _ _
 
   parse-property-same-length-4 : parse-property-lts.Need-same-length-4 (parse-property-calls t) (parse-property-at t) parse-property.Post
-  parse-property-same-length-4 c = c .before .before .put-node .kept .1 .0 ∙ c .before .before .before .before .before .before .before .before .before .before .parse-value2 .kept .1 .1 .1 .1 .1 .1 .0 ∙ c .before .before .before .before .before .before .before .before .before .before .before .before .before .before .before .before .before .before .before .before .before .parse-value .kept .1 .1 .1 .1 .1 .1 .0
+  parse-property-same-length-4 c = c .before .before .put-node .kept .1 .0 ∙ c .before .before .before .before .before .before .before .before .before .before .parse-value2 .kept .1 .1 .1 .1 .1 .0 ∙ c .before .before .before .before .before .before .before .before .before .before .before .before .before .before .before .before .before .before .before .before .before .parse-value .kept .1 .1 .1 .1 .1 .0
 
   parse-property-returns-4 : parse-property-lts.Need-returns-4 (parse-property-calls t) (parse-property-at t) parse-property.Post
   parse-property-returns-4 c = λ u. node _ _ _ _ _ _ _ _ _ _ _ (on _ _ _ (on _ _ _ (on _ _ _ (property-is _ _ _ _ _ _ _ (c .before .before .before .before .start .ensures)) _ _ _ _ (given (valueIn _ _ _ _) _ _ _ _ _ (c .before .before .before .before .before .before .before .before .before .before .before .before .before .before .before .before .before .before .before .before .before .before .before .«open» .ensures) (c .before .before .before .before .before .before .before .before .before .before .before .before .before .before .before .before .before .before .before .before .before .parse-value .ensures _)) (c .before .before .before .before .before .before .before .before .before .before .before .before .before .before .before .before .before .first .given .1)) _ _ _ _ (c .before .before .before .before .before .before .before .before .before .before .before .before .before .before .before .expect .ensures _ _) (c .before .before .before .before .before .before .before .before .before .before .before .before .before .colon .given .1)) _ _ _ _ (c .before .before .before .before .before .before .before .before .before .before .parse-value2 .ensures _) (c .before .before .before .before .before .before .second .given .1)) (c .before .before .put-node .ensures)

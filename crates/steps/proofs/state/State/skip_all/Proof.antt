@@ -8,10 +8,10 @@ use Rattle.steps.proofs.state.State.skip_all.Statement.{statement}
 use Rattle.steps.proofs.state.State.skip_all.Tie as tie
 
 abbrev Inv-loop : tie.InvT-loop
-Inv-loop class trie text separators state₀ state = passed text separators state₀ ≡ passed text separators state
+Inv-loop lut text separators state₀ state = passed text separators state₀ ≡ passed text separators state
 
 abbrev μ-loop : tie.MeasureT-loop
-μ-loop class trie text separators state₀ state = bytesLeft text state
+μ-loop lut text separators state₀ state = bytesLeft text state
 
 loop-holds : tie.Need-loop-holds Inv-loop μ-loop
 loop-holds c = refl

@@ -13,12 +13,12 @@ use Rattle.steps.proofs.state.State.skip_all_comments.Statement.{statem
 use Rattle.steps.proofs.state.State.skip_all_comments.Tie as tie
 
 abbrev Inv-loop : tie.InvT-loop
-Inv-loop class trie text separators comments₀ state₀ comments state =
+Inv-loop lut text separators comments₀ state₀ comments state =
     (length comments ≡ length comments₀)
     × ((t : List ℕ) → skipCommentsIn text separators state₀ t comments₀ ≡ skipCommentsIn text separators state t comments)
 
 abbrev μ-loop : tie.MeasureT-loop
-μ-loop class trie text separators comments₀ state₀ comments state = bytesLeft text state
+μ-loop lut text separators comments₀ state₀ comments state = bytesLeft text state
 
 loop-holds : tie.Need-loop-holds Inv-loop μ-loop
 loop-holds c = (refl, λ t. refl)
