@@ -4,7 +4,7 @@ ghost use mathlib.Core.List.{List};
 ghost use Prim.Native.Nat.{ℕ, _≤_};
 ghost use lib.ListN.{length};
 ghost use Rattle.parser.specs.Read.{reading, told};
-ghost use Rattle.steps.specs.Into.{Keeps, Lent, Reads, Still, restAt, shows, wiped};
+ghost use Rattle.steps.specs.Into.{Keeps, Lent, Reads, Still, restAt, shows};
 ghost use Rattle.reader.specs.Into.{restIn, overIn, betweenIn, documentIn, beginning, refusing, ended, refusingAt, fits, judged, unscanned, parsing};
 use lexer::error;
 use lexer::location::LOC;
@@ -109,23 +109,11 @@ fn begin(lut: &[u8; 768], text: &[u8]) -> State
     st.ahead(found)
 }
 
-// A table's numbers become 0 from an index on.
-pub fn clear(table: &mut [u32], from: usize)
-    requires { ⌜ from ≤ length (now table) ⌝ }
-    ensures { λ _. ⌜ now (table .exit) ≡ wiped from (now (table .entry)) ⌝ }
-{
-    let mut i = from;
-    while i < table.len() {
-        table[i] = 0;
-        i += 1;
-    }
-}
-
 fn refuse(number: u32, place: u32, length: u32, nodes: &mut [u32], comments: &mut [u32]) -> Answer
     ensures { λ r. ⌜ told r (now (nodes .exit)) (now (comments .exit)) ≡ refusing number place length (now (nodes .entry)) (now (comments .entry)) ⌝ }
 {
-    clear(nodes, 0);
-    clear(comments, 0);
+    table::clear(nodes, 0);
+    table::clear(comments, 0);
     Answer::Refused {
         number,
         place,
@@ -173,8 +161,8 @@ fn fit(state: State, nodes: &mut [u32], comments: &mut [u32]) -> Answer
     if comments.len() / table::WIDTH < owned as usize {
         return refuse(error::COMMENTS_FULL, 0, 0, nodes, comments);
     }
-    clear(nodes, next as usize * table::WIDTH);
-    clear(comments, owned as usize * table::WIDTH);
+    table::clear(nodes, next as usize * table::WIDTH);
+    table::clear(comments, owned as usize * table::WIDTH);
     Answer::Accepted {
         nodes: next,
         comments: owned,

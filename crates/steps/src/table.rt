@@ -1,7 +1,9 @@
 // Records in a lent table.
 ghost use mathlib.Core.Path.{_≡_};
+ghost use Prim.Native.Nat.{_≤_};
+ghost use lib.ListN.{length};
 ghost use Rattle.ast.specs.Records.{row};
-ghost use Rattle.steps.specs.Into.{bump, sum, put, putParent};
+ghost use Rattle.steps.specs.Into.{bump, sum, put, putParent, wiped};
 use lexer::location::LOC;
 
 // The record's width.
@@ -51,4 +53,16 @@ pub fn put_parent(table: &mut [u32], index: usize, parent: u32)
         return;
     }
     table[index * WIDTH + 1] = parent;
+}
+
+// A table's numbers become 0 from an index on.
+pub fn clear(table: &mut [u32], from: usize)
+    requires { ⌜ from ≤ length (now table) ⌝ }
+    ensures { λ _. ⌜ now (table .exit) ≡ wiped from (now (table .entry)) ⌝ }
+{
+    let mut i = from;
+    while i < table.len() {
+        table[i] = 0;
+        i += 1;
+    }
 }

@@ -1,13 +1,13 @@
--- `reader::clear` meets its contract. The invariant: what is still to be wiped is what was to be wiped at the start.
+-- `steps::table::clear` meets its contract. The invariant: what is still to be wiped is what was to be wiped at the start.
 use mathlib.Core.Path.{_≡_, refl, sym, _∙_}
 use Prim.Native.Nat.{_≤_, _-_}
 use native.Mathlib.Omega.{arith}
 use borrow.Author.Needs.{needs}
 use lib.ListN.{length, length-set}
 use Rattle.steps.specs.Into.{wiped}
 use Rattle.steps.proofs.Cells.{wipe-step, wipe-done}
-use Rattle.reader.proofs.clear.Statement.{statement}
-use Rattle.reader.proofs.clear.Tie as tie
+use Rattle.steps.proofs.table.clear.Statement.{statement}
+use Rattle.steps.proofs.table.clear.Tie as tie
 
 abbrev Inv-loop : tie.InvT-loop
 Inv-loop table₀ from i₀ table i = (i ≤ length table) × (length table ≡ length table₀) × (wiped i table ≡ wiped from table₀)
