@@ -1,10 +1,10 @@
 #!/usr/bin/env python3
-"""The names of record kinds, flags and refusals for C and Rust, from the code's own.
+"""The names of record kinds, flags and refusals for C and Rust, from the code's own; the definitions' names are held to them.
 
 usage: tools/numbers.py [--check]
 
 Writes command/include/hirvelan_numbers.h and command/hirvelan/src/numbers.rs. With --check it writes nothing and compares them;
-exit status 1 if one of them and the code part. The definitions' names (specs/Kind, specs/Error) are held to the code's as well.
+exit status 1 if one of them and the code part. The definitions' names (specs/Kind of ast and token, specs/Error) are held to the code's as well.
 """
 import os, re, sys
 
@@ -15,6 +15,8 @@ LISTS = [
     ("flag", "FLAG", "The flags of a record; they add up.", "crates/ast/src/flag.rt", "crates/ast/specs/Kind.antt"),
     ("refusal", "REFUSED", "The refusals.", "crates/lexer/src/error.rt", "crates/lexer/specs/Error.antt"),
 ]
+# the code and the definitions of what no user sees: the kinds of token
+WITHIN = [("crates/token/src/kind.rt", "crates/token/specs/Kind.antt")]
 HEADER = "command/include/hirvelan_numbers.h"
 RUST = "command/hirvelan/src/numbers.rs"
 
@@ -57,8 +59,9 @@ def plain(name):
 
 def defined():
     """Where the definitions and the code part."""
-    for there in sorted({list_[4] for list_ in LISTS}):
-        code = [(plain(name), number) for list_ in LISTS if list_[4] == there for name, number in constants(list_[3])]
+    held = [(list_[3], list_[4]) for list_ in LISTS] + WITHIN
+    for there in sorted({specs for _, specs in held}):
+        code = [(plain(name), number) for here, specs in held if specs == there for name, number in constants(here)]
         specs = [(plain(name), number) for name, number in re.findall(r"^(\w+) = (\d+)$", text(there), flags=re.M)]
         if code != specs:
             yield f"{there} and the code part: {sorted(set(code) ^ set(specs))}"
@@ -74,7 +77,7 @@ def main():
                 out.write(wanted)
         elif not os.path.exists(file) or text(file) != wanted:
             wrong.append(f"{file} and the code part: run tools/numbers.py")
-    count = sum(len(constants(list_[3])) for list_ in LISTS)
+    count = sum(len(constants(file)) for file in [list_[3] for list_ in LISTS] + [here for here, _ in WITHIN])
     print("\n".join(wrong + [f"numbers: {count} names, {len(wrong)} wrong"]))
     sys.exit(1 if wrong else 0)
 

@@ -5,6 +5,9 @@ use mathlib.Core.Bool.{true, cond}
 use mathlib.Core.List.{List}
 use Prim.Native.Nat.{ℕ}
 use lib.Dec.{eqb}
+use Rattle.token.specs.Kind as T
+use Rattle.lexer.specs.Error as E
+use Rattle.ast.specs.Kind as K
 use Rattle.ast.specs.Records.{noParent}
 use Rattle.steps.specs.declared.state.State.{State}
 use Rattle.steps.specs.Into.{M, after, _⨟_, opened, nodeIn, advanced, advanceIn, refused, expectIn, skipCommentsIn, ownIn, done}
@@ -24,49 +27,49 @@ unfoldable pub defineIn : List ℕ → ℕ → (ℕ → M) → M
 defineIn text k inside st t u = after (beginIn text st t u) (inside (st .next) ⨟ ownRecordIn st k)
 
 unfoldable pub includeIn : List ℕ → ℕ → M
-includeIn text k = defineIn text k (λ n. tokenIn text 29 12 16 n n)
+includeIn text k = defineIn text k (λ n. tokenIn text T.StringLiteral E.MissingIncludeIdentifier K.Name n n)
 
 unfoldable pub scopeIn : List ℕ → ℕ → ℕ → M
-scopeIn text b p st t u = cond (eqb (st .kind) 47) (tokenIn text 47 11 16 b p st t u) (nameIn text 11 b p st t u)
+scopeIn text b p st t u = cond (eqb (st .kind) T.Star) (tokenIn text T.Star E.MissingNamespaceScope K.Name b p st t u) (nameIn text E.MissingNamespaceScope b p st t u)
 
 unfoldable pub namespaceIn : List ℕ → M
-namespaceIn text = defineIn text 3 (λ n. scopeIn text n n ⨟ nameIn text 10 n n)
+namespaceIn text = defineIn text K.Namespace (λ n. scopeIn text n n ⨟ nameIn text E.MissingNamespaceIdentifier n n)
 
 unfoldable pub typedNameIn : List ℕ → ℕ → ℕ → ℕ → M
 typedNameIn text e b p = typeIn text nesting b p ⨟ nameIn text e b p
 
 unfoldable pub constIn : List ℕ → M
 constIn text =
-    defineIn text 4 (λ n. typedNameIn text 13 n n ⨟ (expectIn text 45 2 ⨟ valueIn text nesting n n)) ⨟ skipCommentsIn text true
+    defineIn text K.Const (λ n. typedNameIn text E.MissingConstIdentifier n n ⨟ (expectIn text T.Equals E.UnexpectedToken ⨟ valueIn text nesting n n)) ⨟ skipCommentsIn text true
 
 unfoldable pub typedefIn : List ℕ → M
-typedefIn text = defineIn text 5 (λ n. typedNameIn text 14 n n)
+typedefIn text = defineIn text K.Typedef (λ n. typedNameIn text E.MissingTypedefIdentifier n n)
 
 unfoldable pub enumIn : List ℕ → M
-enumIn text = defineIn text 6 (λ n. nameIn text 15 n n ⨟ (enumMembersIn text n n ⨟ annotationsIn text n n))
+enumIn text = defineIn text K.Enum (λ n. nameIn text E.MissingEnumIdentifier n n ⨟ (enumMembersIn text n n ⨟ annotationsIn text n n))
 
 unfoldable pub structureIn : List ℕ → ℕ → M
-structureIn text k = defineIn text k (λ n. nameIn text 16 n n ⨟ (fieldsIn text 34 35 0 n n ⨟ annotationsIn text n n))
+structureIn text k = defineIn text k (λ n. nameIn text E.MissingStructIdentifier n n ⨟ (fieldsIn text T.LeftBrace T.RightBrace 0 n n ⨟ annotationsIn text n n))
 
 unfoldable pub extendsIn : List ℕ → ℕ → ℕ → M
-extendsIn text b p st t u = cond (eqb (st .kind) 11) (nameIn text 18 b p (advanced text st) t u) (done st t u)
+extendsIn text b p st t u = cond (eqb (st .kind) T.Extends) (nameIn text E.MissingServiceExtends b p (advanced text st) t u) (done st t u)
 
 unfoldable pub serviceHeadIn : List ℕ → ℕ → ℕ → M
-serviceHeadIn text b p = nameIn text 17 b p ⨟ extendsIn text b p
+serviceHeadIn text b p = nameIn text E.MissingServiceIdentifier b p ⨟ extendsIn text b p
 
 unfoldable pub serviceIn : List ℕ → M
-serviceIn text = defineIn text 10 (λ n. serviceHeadIn text n n ⨟ (functionsIn text n n ⨟ annotationsIn text n n))
+serviceIn text = defineIn text K.Service (λ n. serviceHeadIn text n n ⨟ (functionsIn text n n ⨟ annotationsIn text n n))
 
 unfoldable pub definitionIn : List ℕ → M
 definitionIn text st t u =
-    cond (eqb (st .kind) 1) (namespaceIn text st t u)
-    (cond (eqb (st .kind) 2) (includeIn text 2 st t u)
-    (cond (eqb (st .kind) 3) (includeIn text 1 st t u)
-    (cond (eqb (st .kind) 4) (typedefIn text st t u)
-    (cond (eqb (st .kind) 5) (constIn text st t u)
-    (cond (eqb (st .kind) 6) (enumIn text st t u)
-    (cond (eqb (st .kind) 7) (structureIn text 7 st t u)
-    (cond (eqb (st .kind) 8) (structureIn text 8 st t u)
-    (cond (eqb (st .kind) 9) (structureIn text 9 st t u)
-    (cond (eqb (st .kind) 10) (serviceIn text st t u)
-    (refused 2 st))))))))))
+    cond (eqb (st .kind) T.Namespace) (namespaceIn text st t u)
+    (cond (eqb (st .kind) T.CppInclude) (includeIn text K.CppInclude st t u)
+    (cond (eqb (st .kind) T.Include) (includeIn text K.Include st t u)
+    (cond (eqb (st .kind) T.Typedef) (typedefIn text st t u)
+    (cond (eqb (st .kind) T.Const) (constIn text st t u)
+    (cond (eqb (st .kind) T.Enum) (enumIn text st t u)
+    (cond (eqb (st .kind) T.Struct) (structureIn text K.Struct st t u)
+    (cond (eqb (st .kind) T.Union) (structureIn text K.Union st t u)
+    (cond (eqb (st .kind) T.Exception) (structureIn text K.Exception st t u)
+    (cond (eqb (st .kind) T.Service) (serviceIn text st t u)
+    (refused E.UnexpectedToken st))))))))))

@@ -5,6 +5,9 @@ use mathlib.Core.Bool.{Bool, true, false, cond, _||_}
 use mathlib.Core.List.{List}
 use Prim.Native.Nat.{ℕ}
 use lib.Dec.{eqb, ltb, leb}
+use Rattle.token.specs.Kind as T
+use Rattle.lexer.specs.Error as E
+use Rattle.ast.specs.Kind as K
 use Rattle.parser.specs.Definitions.{nesting}
 use Rattle.steps.specs.declared.state.State.{State}
 use Rattle.steps.specs.Into.{M, after, _⨟_, sum, opened, leafIn, nodeIn, advanced, refused, startAt, takeIn, expectIn, isSeparator, skipIn, skipCommentsIn, ownIn, loopIn, closesAt, isIdAt, done}
@@ -16,7 +19,7 @@ unfoldable pub tokenIn : List ℕ → ℕ → ℕ → ℕ → ℕ → ℕ → M
 tokenIn text w e k b p = expectIn text w e ⨟ leafIn k b p
 
 unfoldable pub nameIn : List ℕ → ℕ → ℕ → ℕ → M
-nameIn text e b p = tokenIn text 28 e 16 b p
+nameIn text e b p = tokenIn text T.Identifier e K.Name b p
 
 -- ---- annotations
 
@@ -25,16 +28,16 @@ oneSeparatorIn text st t u = cond (isSeparator (st .kind)) (done (advanced text 
 
 unfoldable pub annotationIn : List ℕ → ℕ → ℕ → M
 annotationIn text b p st t u =
-    after (nameIn text 2 b (st .next) (opened st) t u)
-    (expectIn text 45 2 ⨟ (tokenIn text 29 2 23 b (st .next) ⨟ (nodeIn (st .next) 15 0 (st .loc .start) b p ⨟ oneSeparatorIn text)))
+    after (nameIn text E.UnexpectedToken b (st .next) (opened st) t u)
+    (expectIn text T.Equals E.UnexpectedToken ⨟ (tokenIn text T.StringLiteral E.UnexpectedToken K.String b (st .next) ⨟ (nodeIn (st .next) K.Annotation 0 (st .loc .start) b p ⨟ oneSeparatorIn text)))
 
 unfoldable pub annotationListIn : List ℕ → ℕ → ℕ → M
-annotationListIn text b p = loopIn text (closesAt 41) (skipIn text false) (takeIn text) (annotationIn text b p)
+annotationListIn text b p = loopIn text (closesAt T.RightParen) (skipIn text false) (takeIn text) (annotationIn text b p)
 
 unfoldable pub annotationsIn : List ℕ → ℕ → ℕ → M
 annotationsIn text b p st t u =
-    cond (eqb (st .kind) 40)
-    (after (annotationListIn text b (st .next) (advanced text (opened st)) t u) (nodeIn (st .next) 14 0 (st .last .start) b p))
+    cond (eqb (st .kind) T.LeftParen)
+    (after (annotationListIn text b (st .next) (advanced text (opened st)) t u) (nodeIn (st .next) K.Annotations 0 (st .last .start) b p))
     (done st t u)
 
 -- ---- fields
@@ -42,27 +45,29 @@ annotationsIn text b p st t u =
 unfoldable pub fieldIdIn : List ℕ → ℕ → ℕ → M
 fieldIdIn text b p st t u =
     after (takeIn text st t u)
-    (λ st₁ t u. cond (eqb (st .kind) 32)
-    (cond (isIdAt text (st₁ .last)) ((leafIn 17 b p ⨟ expectIn text 43 2) st₁ t u) (refused 9 st))
+    (λ st₁ t u. cond (eqb (st .kind) T.IntegerLiteral)
+    (cond (isIdAt text (st₁ .last)) ((leafIn K.FieldId b p ⨟ expectIn text T.Colon E.UnexpectedToken) st₁ t u) (refused E.InvalidFieldId st))
     (done st₁ t u))
 
 unfoldable pub requiredOf : ℕ → ℕ
-requiredOf k = cond (eqb k 13) 1 (cond (eqb k 14) 2 0)
+requiredOf k = cond (eqb k T.Required) K.Required (cond (eqb k T.Optional) K.Optional 0)
 
 unfoldable pub skipRequired : List ℕ → State → State
 skipRequired text st = cond (eqb (requiredOf (st .kind)) 0) st (advanced text st)
 
 unfoldable pub isEarlyName : ℕ → Bool
-isEarlyName k = eqb k 1 || (eqb k 3 || (eqb k 6 || eqb k 7))
+isEarlyName k = eqb k T.Namespace || (eqb k T.Include || (eqb k T.Enum || eqb k T.Struct))
 
 unfoldable pub isFieldName : ℕ → Bool
-isFieldName k = cond (ltb k 10) (isEarlyName k) (cond (leb k 14) true (cond (ltb k 16) false (cond (leb k 28) true (eqb k 50))))
+isFieldName k =
+    cond (ltb k T.Service) (isEarlyName k)
+    (cond (leb k T.Optional) true (cond (ltb k T.Bool) false (cond (leb k T.Identifier) true (eqb k T.Oneway))))
 
 unfoldable pub fieldNameIn : List ℕ → ℕ → ℕ → M
-fieldNameIn text b p st t u = cond (isFieldName (st .kind)) (leafIn 16 b p (advanced text st) t u) (refused 8 st)
+fieldNameIn text b p st t u = cond (isFieldName (st .kind)) (leafIn K.Name b p (advanced text st) t u) (refused E.InvalidFieldName st)
 
 unfoldable pub defaultIn : List ℕ → ℕ → ℕ → M
-defaultIn text b p st t u = cond (eqb (st .kind) 45) (valueIn text nesting b p (advanced text st) t u) (done st t u)
+defaultIn text b p st t u = cond (eqb (st .kind) T.Equals) (valueIn text nesting b p (advanced text st) t u) (done st t u)
 
 unfoldable pub fieldHeadIn : List ℕ → ℕ → ℕ → M
 fieldHeadIn text b p st t u = after (typeIn text nesting b p (skipRequired text st) t u) (fieldNameIn text b p)
@@ -75,14 +80,14 @@ fieldIn text f b p st t u =
     after (ownIn (st .next) (opened st) t u)
     (fieldIdIn text b (st .next)
     ⨟ λ st₁ t u. after (fieldHeadIn text b (st .next) st₁ t u)
-    (fieldTailIn text b (st .next) ⨟ nodeIn (st .next) 12 (sum (requiredOf (st₁ .kind)) f) (startAt st) b p))
+    (fieldTailIn text b (st .next) ⨟ nodeIn (st .next) K.Field (sum (requiredOf (st₁ .kind)) f) (startAt st) b p))
 
 unfoldable pub skipMemberIn : List ℕ → M
 skipMemberIn text = skipIn text true ⨟ skipCommentsIn text false
 
 -- members from one bracket to another
 unfoldable pub membersIn : List ℕ → ℕ → ℕ → M → M
-membersIn text o k member = expectIn text o 2 ⨟ loopIn text (closesAt k) (skipMemberIn text) (takeIn text) member
+membersIn text o k member = expectIn text o E.UnexpectedToken ⨟ loopIn text (closesAt k) (skipMemberIn text) (takeIn text) member
 
 unfoldable pub fieldsIn : List ℕ → ℕ → ℕ → ℕ → ℕ → ℕ → M
 fieldsIn text o k f b p = membersIn text o k (fieldIn text f b p)

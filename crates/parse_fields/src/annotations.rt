@@ -1,5 +1,6 @@
 // Annotations.
 ghost use mathlib.Core.Path.{_≡_};
+ghost use Rattle.token.specs.Kind as T;
 ghost use Rattle.steps.specs.Into.{Lent, Quiet};
 ghost use Rattle.parse_fields.specs.Into.{annotationIn, annotationListIn, annotationsIn};
 use crate::Leaf;
@@ -104,7 +105,7 @@ fn parse_some_annotations(
     parent: Parent,
     rest: &mut [u32],
 ) -> Parsed
-    requires { ⌜ Lent (now lut) (now text) × (st .kind ≡ 40) ⌝ }
+    requires { ⌜ Lent (now lut) (now text) × (st .kind ≡ T.LeftParen) ⌝ }
     ensures { λ r. ⌜ Quiet (annotationsIn (now (text .entry)) (parent .base) (parent .node)) st r (now (rest .entry)) (now (rest .exit)) ⌝ }
 {
     let under = Parent {

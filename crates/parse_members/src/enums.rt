@@ -1,5 +1,6 @@
 // Enum members.
 ghost use mathlib.Core.Path.{_≡_};
+ghost use Rattle.token.specs.Kind as T;
 ghost use Rattle.steps.specs.Into.{Lent, Reads, Quiet};
 ghost use Rattle.parse_members.specs.Into.{hasTail, initializerIn, memberIn, enumMembersIn};
 use lexer::error;
@@ -42,7 +43,7 @@ fn parse_initializer(
 // The number of a member, its `=` ahead.
 // Initializer ::= '=' (hex | integer)
 fn parse_number(lut: &[u8; 768], text: &[u8], st: State, parent: Parent, rest: &mut [u32]) -> Parsed
-    requires { ⌜ Lent (now lut) (now text) × (st .kind ≡ 45) ⌝ }
+    requires { ⌜ Lent (now lut) (now text) × (st .kind ≡ T.Equals) ⌝ }
     ensures { λ r. ⌜ Quiet (initializerIn (now (text .entry)) (parent .base) (parent .node)) st r (now (rest .entry)) (now (rest .exit)) ⌝ }
 {
     let state = st.advance(lut, text);

@@ -14,7 +14,7 @@ use Rattle.lexer.specs.Cuts.{cuts, unrecognized}
 use Rattle.ast.specs.Records.{width, room, cleared}
 use Rattle.parser.specs.Read.{Reading}
 use Rattle.steps.specs.declared.state.State.{State}
-use Rattle.steps.specs.Into.{Out, M, _⨟_, restAt, wiped, advanced, refused, skipIn, skipCommentsIn, loopIn, closesAt, done, stop}
+use Rattle.steps.specs.Into.{Out, M, _⨟_, noToken, restAt, wiped, advanced, refused, skipIn, skipCommentsIn, loopIn, closesAt, done, stop}
 use Rattle.parse_definitions.specs.Into.{definitionIn}
 
 -- ---- the document
@@ -34,12 +34,12 @@ unfoldable pub betweenIn : List ℕ → M
 betweenIn text = skipIn text true ⨟ (skipCommentsIn text false ⨟ skipIn text true)
 
 unfoldable pub documentIn : List ℕ → M
-documentIn text = loopIn text (closesAt 255) (betweenIn text) overIn (restIn text)
+documentIn text = loopIn text (closesAt noToken) (betweenIn text) overIn (restIn text)
 
 unfoldable pub beginning : List ℕ → State
 beginning text =
     let l = between opening opening in
-    advanced text (record { kind = 255; loc = l; last = l; next = 0; owned = 0; waiting = 0 })
+    advanced text (record { kind = noToken; loc = l; last = l; next = 0; owned = 0; waiting = 0 })
 
 -- ---- the whole
 

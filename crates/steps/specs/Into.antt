@@ -6,6 +6,9 @@ use mathlib.Core.List.{List, _++_}
 use Prim.Native.Nat.{ℕ, zero, suc, _+_, _*_, _-_, _≤_}
 use lib.Dec.{eqb, ltb, leb}
 use lib.ListN.{length, take, drop, set, replicate}
+use Rattle.token.specs.Kind as T
+use Rattle.lexer.specs.Error as E
+use Rattle.ast.specs.Kind as K
 use Rattle.token.specs.Code.{code}
 use Rattle.token.specs.Tables.{tables}
 use Rattle.lexer.specs.declared.location.Lexer.{Lexer}
@@ -24,6 +27,10 @@ use Rattle.steps.specs.declared.state.Parsed.the-variants.{On, Refused}
 pub record Lent (lut text : List ℕ) : Type 0 where
   pub tabled : lut ≡ tables
   pub short : length text ≤ 65536
+
+-- the kind where no token is left
+abbrev pub noToken : ℕ
+noToken = 255
 
 -- the state and both tables afterwards; or document 01's number and a place
 pub data Out : Type 0 where
@@ -123,9 +130,9 @@ unfoldable pub aheadOf : Next → State → State
 aheadOf (N.On p s) st =
     record { kind = code (p .token); loc = p .loc; last = st .loc; next = st .next; owned = st .owned; waiting = st .waiting }
 aheadOf N.End st =
-    record { kind = 255; loc = st .loc; last = st .loc; next = st .next; owned = st .owned; waiting = st .waiting }
+    record { kind = noToken; loc = st .loc; last = st .loc; next = st .next; owned = st .owned; waiting = st .waiting }
 aheadOf (N.Unrecognized p) st =
-    record { kind = 255; loc = st .loc; last = st .loc; next = st .next; owned = st .owned; waiting = st .waiting }
+    record { kind = noToken; loc = st .loc; last = st .loc; next = st .next; owned = st .owned; waiting = st .waiting }
 
 unfoldable pub advanced : List ℕ → State → State
 advanced text st = aheadOf (lookAt text (st .loc .end)) st
@@ -134,16 +141,16 @@ unfoldable pub advanceIn : List ℕ → M
 advanceIn text st t u = done (advanced text st) t u
 
 unfoldable pub refused : ℕ → State → Out
-refused e st = cond (eqb (st .kind) 255) (stop 3 (st .last)) (stop e (st .loc))
+refused e st = cond (eqb (st .kind) noToken) (stop E.UnexpectedEOF (st .last)) (stop e (st .loc))
 
 unfoldable pub refuseIn : ℕ → M
 refuseIn e st t u = refused e st
 
 unfoldable pub startAt : State → Span
-startAt st = cond (eqb (st .kind) 255) (st .last .start) (st .loc .start)
+startAt st = cond (eqb (st .kind) noToken) (st .last .start) (st .loc .start)
 
 unfoldable pub takeIn : List ℕ → M
-takeIn text st t u = cond (eqb (st .kind) 255) (refused 3 st) (done (advanced text st) t u)
+takeIn text st t u = cond (eqb (st .kind) noToken) (refused E.UnexpectedEOF st) (done (advanced text st) t u)
 
 unfoldable pub expectIn : List ℕ → ℕ → ℕ → M
 expectIn text k e st t u = cond (eqb (st .kind) k) (takeIn text st t u) (refused e st)
@@ -151,13 +158,13 @@ expectIn text k e st t u = cond (eqb (st .kind) k) (takeIn text st t u) (refused
 -- the bytes behind the lexer, and one for the token ahead; none where no token is ahead. What takes a token makes them fall, so a loop has at most
 -- one turn more than bytes are left, and each below is its first turn and then itself (passed-is and comments-is in proofs/Bytes, loop-is in LoopForms)
 unfoldable pub bytesLeft : List ℕ → State → ℕ
-bytesLeft text st = cond (eqb (st .kind) 255) 0 (suc (length text - st .loc .end .index))
+bytesLeft text st = cond (eqb (st .kind) noToken) 0 (suc (length text - st .loc .end .index))
 
 unfoldable pub isSeparator : ℕ → Bool
-isSeparator k = eqb k 44 || eqb k 42
+isSeparator k = eqb k T.Comma || eqb k T.Semicolon
 
 unfoldable pub isComment : ℕ → Bool
-isComment k = eqb k 48 || eqb k 49
+isComment k = eqb k T.LineComment || eqb k T.BlockComment
 
 unfoldable pub passes : ℕ → Bool → Bool
 passes k s = cond s (isSeparator k) (isComment k)
@@ -178,7 +185,7 @@ unfoldable pub waits : State → State
 waits st = record { kind = st .kind; loc = st .loc; last = st .last; next = st .next; owned = st .owned; waiting = bump (st .waiting) }
 
 unfoldable pub putWaiting : State → List ℕ → List ℕ
-putWaiting st u = put (st .owned + st .waiting) (row (cond (eqb (st .kind) 48) 32 33) 0 0 (st .loc)) u
+putWaiting st u = put (st .owned + st .waiting) (row (cond (eqb (st .kind) T.LineComment) K.LineComment K.BlockComment) 0 0 (st .loc)) u
 
 unfoldable pub waitIn : M
 waitIn st t u = done (waits st) t (putWaiting st u)
@@ -205,7 +212,7 @@ ownIn p st t u = done (owns st) t (parents (st .owned) (st .waiting) p u)
 
 -- members until a state that closes
 unfoldable pub turnsIn : (State → Bool) → M → M → M → ℕ → M
-turnsIn closes skips shut member zero = refuseIn 3
+turnsIn closes skips shut member zero = refuseIn E.UnexpectedEOF
 turnsIn closes skips shut member (suc n) =
     skips ⨟ λ st t u. cond (closes st) (shut st t u) ((member ⨟ turnsIn closes skips shut member n) st t u)
 

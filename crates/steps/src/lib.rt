@@ -1,4 +1,5 @@
-// The steps over tokens: rico's parser/token.rs.
+// What the readers above share: the parser by value and its steps (rico's parser/token.rs), the tokens ahead, records in a lent table, ids.
+// Every step holds for any state and any table: none has to be well formed, and what does not fit is counted, not written.
 pub mod id;
 pub mod state;
 pub mod table;
@@ -34,7 +35,7 @@ pub fn look(lut: &[u8; 768], text: &[u8], place: Span) -> Next
     ensures { λ r. ⌜ r ≡ lookAt (now (text .entry)) place ⌝ }
 {
     let from = lexer_at(place);
-    if 65536 < from.at {
+    if lexer::LIMIT < from.at as usize {
         return Next::End;
     }
     if from.at < from.line {

@@ -1,4 +1,5 @@
 pub mod Code
+pub mod Kind
 pub mod Regex
 pub mod Patterns
 pub mod Scan

@@ -33,4 +33,4 @@ unfolding lookAt
 returns-3 c = c .next-token .ensures ∙ rw (← c .before .before .before .before .before .lexer-at .ensures, le-ltb _ _ (c .before .before .before .if1 .left), le-ltb _ _ (c .before .if2 .left))
 
 pub look-spec : {M : Type 1} → statement M
-look-spec = tie.close (tie.spec (λ c κs. search needs) returns returns-2 next-token-requires returns-3)
+look-spec = tie.close (tie.spec (λ c κs. search needs) (λ c. search needs) returns returns-2 next-token-requires returns-3)
