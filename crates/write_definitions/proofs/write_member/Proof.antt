@@ -7,7 +7,7 @@ use Rattle.write_definitions.proofs.write_member.Statement.{statement}
 use Rattle.write_definitions.proofs.write_member.Tie as tie
 
 same-length : tie.Need-same-length
-same-length c = c .before .before .put .kept .0 ∙ c .before .before .before .before .before .before .before .write-annotations .kept .1 .1 .1 .0 ∙ c .before .before .before .before .before .before .before .before .before .before .before .write-initializer .kept .1 .1 .1 .0 ∙ c .before .before .before .before .before .before .before .before .before .before .before .before .before .before .before .put-token .kept .1 .1 .0 ∙ c .before .before .before .before .before .before .before .before .before .before .before .before .before .before .before .before .before .before .before .before .put-spaces .kept .0 ∙ c .before .before .before .before .before .before .before .before .before .before .before .before .before .before .before .before .before .before .before .before .before .before .before .before .put-comments .kept .1 .1 .1 .0
+same-length c = c .before .before .put .kept .0 ∙ c .before .before .before .before .before .before .before .write-annotations .kept .1 .1 .0 ∙ c .before .before .before .before .before .before .before .before .before .before .before .write-initializer .kept .1 .1 .0 ∙ c .before .before .before .before .before .before .before .before .before .before .before .before .before .before .before .put-token .kept .1 .1 .0 ∙ c .before .before .before .before .before .before .before .before .before .before .before .before .before .before .before .before .before .before .before .before .put-spaces .kept .0 ∙ c .before .before .before .before .before .before .before .before .before .before .before .before .before .before .before .before .before .before .before .before .before .before .before .before .put-comments .kept .1 .1 .0
 
 returns : tie.Need-returns
 returns c = last _ _ (kept _ _ _ (kept _ _ _ (kept _ _ _ (kept _ _ _ (kept _ _ _ (kept _ _ _ (member-is _ _ _ _ _ _ _ _) _ _ (c .before .before .before .before .before .before .before .before .before .before .before .before .before .before .before .before .before .before .before .before .before .before .before .before .put-comments .ensures)) _ _ (c .before .before .before .before .before .before .before .before .before .before .before .before .before .before .before .before .before .before .before .before .put-spaces .ensures)) _ _ (c .before .before .before .before .before .before .before .before .before .before .before .before .before .before .before .before .pass-node .ensures _)) _ _ (c .before .before .before .before .before .before .before .before .before .before .before .before .before .before .before .put-token .ensures)) _ _ (c .before .before .before .before .before .before .before .before .before .before .before .write-initializer .ensures)) _ _ (c .before .before .before .before .before .before .before .write-annotations .ensures)) _ _ (c .before .before .put .ensures)

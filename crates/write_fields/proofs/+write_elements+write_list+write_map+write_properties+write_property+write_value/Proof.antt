@@ -6,6 +6,7 @@ use Rattle.cursor.proofs.Chain.{kept, last, ends, yes, no, about}
 use Rattle.write_fields.proofs.Shapes.{property-is, list-is, map-is, value-is}
 use Rattle.write_fields.proofs.Rounds.{Going, starts, each-turn, each-over}
 use borrow.Author.Needs.{needs}
+use Rattle.ast.specs.Records.{width, room}
 use mathlib.Core.Bool.{true}
 use Rattle.write_fields.specs.Onto.{eachOut, propertyOut, valueOut}
 use Prim.Native.Nat.{ℕ, _<_, _*_, _+_}
@@ -39,22 +40,22 @@ use Rattle.write_fields.proofs.+write_elements+write_list+write_map+wri
 use Rattle.write_fields.proofs.+write_elements+write_list+write_map+write_properties+write_property+write_value.Tie.{close}
 
 abbrev μ-write-elements : Measures 3 write-elements-kinds.ps ℕ
-μ-write-elements κs a = 4 * a .1 .1 .1 .1 .1 .1 .0 + 1
+μ-write-elements κs a = 4 * a .1 .1 .1 .1 .1 .0 + 1
 
 abbrev μ-write-list : Measures 3 write-list-kinds.ps ℕ
-μ-write-list κs a = 4 * a .1 .1 .1 .1 .1 .0 + 2
+μ-write-list κs a = 4 * a .1 .1 .1 .1 .0 + 2
 
 abbrev μ-write-map : Measures 3 write-map-kinds.ps ℕ
-μ-write-map κs a = 4 * a .1 .1 .1 .1 .1 .0 + 3
+μ-write-map κs a = 4 * a .1 .1 .1 .1 .0 + 3
 
 abbrev μ-write-properties : Measures 3 write-properties-kinds.ps ℕ
-μ-write-properties κs a = 4 * a .1 .1 .1 .1 .1 .1 .0 + 2
+μ-write-properties κs a = 4 * a .1 .1 .1 .1 .1 .0 + 2
 
 abbrev μ-write-property : Measures 3 write-property-kinds.ps ℕ
-μ-write-property κs a = 4 * a .1 .1 .1 .1 .1 .0 + 1
+μ-write-property κs a = 4 * a .1 .1 .1 .1 .0 + 1
 
 abbrev μ-write-value : Measures 3 write-value-kinds.ps ℕ
-μ-write-value κs a = 4 * a .1 .1 .1 .1 .1 .0
+μ-write-value κs a = 4 * a .1 .1 .1 .1 .0
 
 abbrev write-elements-at : ℕ → In 3 write-elements-kinds.ps
 write-elements-at t = and 3 write-elements-kinds.ps (is 3 write-elements-kinds.ps μ-write-elements t) write-elements.Pre
@@ -111,19 +112,20 @@ abbrev write-value-calls : ℕ → write-value-lts.Claims
 write-value-calls t = (put-token-reads.Asked, put-token-reads.Learnt, kind-at-reads.Asked, kind-at-reads.Learnt, write-list-below t, write-list.Post, write-map-below t, write-map.Post)
 
 abbrev write-elements-Inv-loop : write-elements-lts.InvT-loop
-write-elements-Inv-loop text nodes count out₀ owner depth now₀ first₀ left₀ out now first left = Going (eachOut nodes count owner (valueOut text nodes count depth) true count) (eachOut nodes count owner (valueOut text nodes count depth) first left) now₀ out₀ now out
+write-elements-Inv-loop text nodes out₀ owner depth now₀ first₀ left₀ out now first left = Going (eachOut nodes (room nodes) owner (valueOut text nodes (room nodes) depth) true (room nodes)) (eachOut nodes (room nodes) owner (valueOut text nodes (room nodes) depth) first left) now₀ out₀ now out
 
 abbrev write-elements-μ-loop : write-elements-lts.MeasureT-loop
-write-elements-μ-loop text nodes count out₀ owner depth now₀ first₀ left₀ out now first left = left
+write-elements-μ-loop text nodes out₀ owner depth now₀ first₀ left₀ out now first left = left
 
 abbrev write-properties-Inv-loop : write-properties-lts.InvT-loop
-write-properties-Inv-loop text nodes count out₀ owner depth now₀ first₀ left₀ out now first left = Going (eachOut nodes count owner (propertyOut (valueOut text nodes count depth)) true count) (eachOut nodes count owner (propertyOut (valueOut text nodes count depth)) first left) now₀ out₀ now out
+write-properties-Inv-loop text nodes out₀ owner depth now₀ first₀ left₀ out now first left = Going (eachOut nodes (room nodes) owner (propertyOut (valueOut text nodes (room nodes) depth)) true (room nodes)) (eachOut nodes (room nodes) owner (propertyOut (valueOut text nodes (room nodes) depth)) first left) now₀ out₀ now out
 
 abbrev write-properties-μ-loop : write-properties-lts.MeasureT-loop
-write-properties-μ-loop text nodes count out₀ owner depth now₀ first₀ left₀ out now first left = left
+write-properties-μ-loop text nodes out₀ owner depth now₀ first₀ left₀ out now first left = left
 
 module _ (t : ℕ) where
   write-elements-loop-holds : write-elements-lts.Need-loop-holds (write-elements-calls t) (write-elements-at t) write-elements.Post write-elements-Inv-loop write-elements-μ-loop
+  unfolding room width
   write-elements-loop-holds c = starts _ _ _
 
   write-elements-same-length : write-elements-lts.Need-same-length (write-elements-calls t) (write-elements-at t) write-elements.Post write-elements-Inv-loop write-elements-μ-loop
@@ -142,7 +144,7 @@ module _ (t : ℕ) where
   write-elements-loop-less c = omega (arith, c .before .before .before .before .before .before .before .before .before .before .loop-test .taken)
 
   write-elements-loop-again : write-elements-lts.Need-loop-again (write-elements-calls t) (write-elements-at t) write-elements.Post write-elements-Inv-loop write-elements-μ-loop
-  write-elements-loop-again c = record { goes = kept _ _ _ (kept _ _ _ (yes _ _ _ _ _ (about _ _ _ _ _ _ (each-turn _ _ _ _ _ _ _ _ _ (c .before .before .before .before .before .before .before .before .before .before .before .loop .inv .goes) (c .before .before .before .before .before .before .before .before .before .before .loop-test .taken)) (c .before .before .before .before .before .before .before .before .before .parent-at .ensures)) (c .before .before .before .before .before .before .before .before .if1 .left)) _ _ (c .before .before .before .before .before .before .put-comma .ensures)) _ _ (c .before .before .write-value .ensures); long = c .before .before .write-value .kept .1 .1 .1 .0 ∙ c .before .before .before .before .before .before .put-comma .kept .0 ∙ c .before .before .before .before .before .before .before .before .before .before .before .loop .inv .long }
+  write-elements-loop-again c = record { goes = kept _ _ _ (kept _ _ _ (yes _ _ _ _ _ (about _ _ _ _ _ _ (each-turn _ _ _ _ _ _ _ _ _ (c .before .before .before .before .before .before .before .before .before .before .before .loop .inv .goes) (c .before .before .before .before .before .before .before .before .before .before .loop-test .taken)) (c .before .before .before .before .before .before .before .before .before .parent-at .ensures)) (c .before .before .before .before .before .before .before .before .if1 .left)) _ _ (c .before .before .before .before .before .before .put-comma .ensures)) _ _ (c .before .before .write-value .ensures); long = c .before .before .write-value .kept .1 .1 .0 ∙ c .before .before .before .before .before .before .put-comma .kept .0 ∙ c .before .before .before .before .before .before .before .before .before .before .before .loop .inv .long }
 
   write-elements-same-length-2 : write-elements-lts.Need-same-length-2 (write-elements-calls t) (write-elements-at t) write-elements.Post write-elements-Inv-loop write-elements-μ-loop
   write-elements-same-length-2 c = c .before .loop .inv .long
@@ -154,7 +156,7 @@ module _ (t : ℕ) where
   write-list-write-elements-requires c κs = (omega (arith, c .before .before .before .before .before .before .before .before .before .before .pre .0), c .before .before .before .before .before .before .before .before .before .before .pre .1)
 
   write-list-same-length : write-list-lts.Need-same-length (write-list-calls t) (write-list-at t) write-list.Post
-  write-list-same-length c = c .before .before .put2 .kept .0 ∙ c .before .before .before .before .before .before .before .write-elements .kept .1 .1 .1 .0 ∙ c .before .before .before .before .before .before .before .before .before .before .before .put .kept .0
+  write-list-same-length c = c .before .before .put2 .kept .0 ∙ c .before .before .before .before .before .before .before .write-elements .kept .1 .1 .0 ∙ c .before .before .before .before .before .before .before .before .before .before .before .put .kept .0
 
   write-list-returns : write-list-lts.Need-returns (write-list-calls t) (write-list-at t) write-list.Post
   write-list-returns c = last _ _ (kept _ _ _ (kept _ _ _ (kept _ _ _ (list-is _ _ _ _ _) _ _ (c .before .before .before .before .before .before .before .before .before .before .before .before .before .pass-node .ensures _)) _ _ (c .before .before .before .before .before .before .before .before .before .before .before .put .ensures)) _ _ (c .before .before .before .before .before .before .before .write-elements .ensures)) _ _ (c .before .before .put2 .ensures)
@@ -163,12 +165,13 @@ module _ (t : ℕ) where
   write-map-write-properties-requires c κs = (omega (arith, c .before .before .before .before .before .before .before .before .before .before .pre .0), c .before .before .before .before .before .before .before .before .before .before .pre .1)
 
   write-map-same-length : write-map-lts.Need-same-length (write-map-calls t) (write-map-at t) write-map.Post
-  write-map-same-length c = c .before .before .put2 .kept .0 ∙ c .before .before .before .before .before .before .before .write-properties .kept .1 .1 .1 .0 ∙ c .before .before .before .before .before .before .before .before .before .before .before .put .kept .0
+  write-map-same-length c = c .before .before .put2 .kept .0 ∙ c .before .before .before .before .before .before .before .write-properties .kept .1 .1 .0 ∙ c .before .before .before .before .before .before .before .before .before .before .before .put .kept .0
 
   write-map-returns : write-map-lts.Need-returns (write-map-calls t) (write-map-at t) write-map.Post
   write-map-returns c = last _ _ (kept _ _ _ (kept _ _ _ (kept _ _ _ (map-is _ _ _ _ _) _ _ (c .before .before .before .before .before .before .before .before .before .before .before .before .before .pass-node .ensures _)) _ _ (c .before .before .before .before .before .before .before .before .before .before .before .put .ensures)) _ _ (c .before .before .before .before .before .before .before .write-properties .ensures)) _ _ (c .before .before .put2 .ensures)
 
   write-properties-loop-holds : write-properties-lts.Need-loop-holds (write-properties-calls t) (write-properties-at t) write-properties.Post write-properties-Inv-loop write-properties-μ-loop
+  unfolding room width
   write-properties-loop-holds c = starts _ _ _
 
   write-properties-same-length : write-properties-lts.Need-same-length (write-properties-calls t) (write-properties-at t) write-properties.Post write-properties-Inv-loop write-properties-μ-loop
@@ -187,7 +190,7 @@ module _ (t : ℕ) where
   write-properties-loop-less c = omega (arith, c .before .before .before .before .before .before .before .before .before .before .loop-test .taken)
 
   write-properties-loop-again : write-properties-lts.Need-loop-again (write-properties-calls t) (write-properties-at t) write-properties.Post write-properties-Inv-loop write-properties-μ-loop
-  write-properties-loop-again c = record { goes = kept _ _ _ (kept _ _ _ (yes _ _ _ _ _ (about _ _ _ _ _ _ (each-turn _ _ _ _ _ _ _ _ _ (c .before .before .before .before .before .before .before .before .before .before .before .loop .inv .goes) (c .before .before .before .before .before .before .before .before .before .before .loop-test .taken)) (c .before .before .before .before .before .before .before .before .before .parent-at .ensures)) (c .before .before .before .before .before .before .before .before .if1 .left)) _ _ (c .before .before .before .before .before .before .put-comma .ensures)) _ _ (c .before .before .write-property .ensures); long = c .before .before .write-property .kept .1 .1 .1 .0 ∙ c .before .before .before .before .before .before .put-comma .kept .0 ∙ c .before .before .before .before .before .before .before .before .before .before .before .loop .inv .long }
+  write-properties-loop-again c = record { goes = kept _ _ _ (kept _ _ _ (yes _ _ _ _ _ (about _ _ _ _ _ _ (each-turn _ _ _ _ _ _ _ _ _ (c .before .before .before .before .before .before .before .before .before .before .before .loop .inv .goes) (c .before .before .before .before .before .before .before .before .before .before .loop-test .taken)) (c .before .before .before .before .before .before .before .before .before .parent-at .ensures)) (c .before .before .before .before .before .before .before .before .if1 .left)) _ _ (c .before .before .before .before .before .before .put-comma .ensures)) _ _ (c .before .before .write-property .ensures); long = c .before .before .write-property .kept .1 .1 .0 ∙ c .before .before .before .before .before .before .put-comma .kept .0 ∙ c .before .before .before .before .before .before .before .before .before .before .before .loop .inv .long }
 
   write-properties-same-length-2 : write-properties-lts.Need-same-length-2 (write-properties-calls t) (write-properties-at t) write-properties.Post write-properties-Inv-loop write-properties-μ-loop
   write-properties-same-length-2 c = c .before .loop .inv .long
@@ -202,7 +205,7 @@ module _ (t : ℕ) where
   write-property-write-value-requires-2 c κs = (omega (arith, c .before .before .before .before .before .before .before .before .before .before .before .before .before .before .pre .0), c .before .before .before .before .before .before .before .before .before .before .before .before .before .before .pre .1)
 
   write-property-same-length : write-property-lts.Need-same-length (write-property-calls t) (write-property-at t) write-property.Post
-  write-property-same-length c = c .before .before .write-value2 .kept .1 .1 .1 .0 ∙ c .before .before .before .before .before .before .put .kept .0 ∙ c .before .before .before .before .before .before .before .before .before .before .before .write-value .kept .1 .1 .1 .0
+  write-property-same-length c = c .before .before .write-value2 .kept .1 .1 .0 ∙ c .before .before .before .before .before .before .put .kept .0 ∙ c .before .before .before .before .before .before .before .before .before .before .before .write-value .kept .1 .1 .0
 
   write-property-returns : write-property-lts.Need-returns (write-property-calls t) (write-property-at t) write-property.Post
   write-property-returns c = last _ _ (kept _ _ _ (kept _ _ _ (kept _ _ _ (property-is _ _ _) _ _ (c .before .before .before .before .before .before .before .before .before .before .before .before .pass-node .ensures _)) _ _ (c .before .before .before .before .before .before .before .before .before .before .before .write-value .ensures)) _ _ (c .before .before .before .before .before .before .put .ensures)) _ _ (c .before .before .write-value2 .ensures)
