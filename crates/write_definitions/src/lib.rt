@@ -93,6 +93,9 @@ fn write_member(
     let spaced = cursor::put_spaces(out, noted, indent);
     let named = cursor::put_token(text, nodes, out, cursor::pass_node(spaced));
     let value = write_fields::write_initializer(text, nodes, out, named, at.node);
+    if cursor::parent_at(nodes, value.node) != at.node {
+        return cursor::put(out, value, b",\n"); // no annotations
+    }
     let annotated = write_fields::write_annotations(text, nodes, out, value, at.node);
     cursor::put(out, annotated, b",\n")
 }

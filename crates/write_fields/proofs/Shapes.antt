@@ -89,6 +89,17 @@ pub value-is : (text nodes : List ℕ) (count d : ℕ) (p : Cursor) (o : List �
     valueOut text nodes count d p o ≡ valueBy text nodes count (eqb d 0) k (d - 1) p o
 value-is text nodes count d p o h = value-at text nodes count d p o ∙ ap (λ (x : ℕ). valueBy text nodes count (eqb d 0) x (d - 1) p o) (sym h)
 
+-- a value of a small kind is one token
+pub value-token : (text nodes : List ℕ) (count d : ℕ) (p : Cursor) (o : List ℕ) {k : ℕ} → k ≡ kindAt nodes count (p .node) → k < 29 →
+    valueOut text nodes count d p o ≡ tokenOut text nodes p o
+value-token text nodes count d p o {k} h l =
+    value-is text nodes count d p o h
+    ∙ rw (ne-eqb k 29 (λ e. omega (arith, e, l)), ne-eqb k 30 (λ e. omega (arith, e, l))) (either (eqb d 0) (tokenOut text nodes p o))
+  where
+    either : (b : Bool) (x : Reached) → cond b x x ≡ x
+    either true x = refl
+    either false x = refl
+
 -- ---- annotations
 
 pub annotation-is : (text nodes : List ℕ) (p : Cursor) (o : List ℕ) → annotationOut text nodes p o ≡
@@ -104,6 +115,11 @@ pub annotations-is : (text nodes : List ℕ) (count owner : ℕ) (p : Cursor) (o
     (reached p o)
 unfolding annotationsOut bracketsOut sayOut ascii
 annotations-is text nodes count owner p o = refl
+
+pub annotations-none : (text nodes : List ℕ) (count owner : ℕ) (p : Cursor) (o : List ℕ) {x : ℕ} → x ≡ parentAt nodes count (p .node) → (x ≡ owner → ⊥) →
+    reached p o ≡ annotationsOut text nodes count owner p o
+unfolding annotationsOut
+annotations-none text nodes count owner p o {x} e h = rw (sym e, ne-eqb x owner h)
 
 -- ---- fields
 

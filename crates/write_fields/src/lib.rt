@@ -92,6 +92,22 @@ fn write_list(text: &[u8], nodes: &[u32], out: &mut [u8], at: Cursor, depth: u32
     cursor::put(out, inner, b"]")
 }
 
+// an element; most are one token
+fn write_element(
+    text: &[u8],
+    nodes: &[u32],
+    out: &mut [u8],
+    at: Cursor,
+    depth: u32,
+) -> Cursor
+    ensures { λ r. ⌜ Writes (valueOut (now (text .entry)) (now (nodes .entry)) (room (now (nodes .entry))) depth) at r (now (out .entry)) (now (out .exit)) ⌝ }
+{
+    if cursor::kind_at(nodes, at.node) < ast::kind::LIST_VALUE {
+        return cursor::put_token(text, nodes, out, at);
+    }
+    write_value(text, nodes, out, at, depth)
+}
+
 fn write_elements(
     text: &[u8],
     nodes: &[u32],
@@ -110,7 +126,7 @@ fn write_elements(
             return now;
         }
         let parted = put_comma(out, now, first);
-        now = write_value(text, nodes, out, parted, depth);
+        now = write_element(text, nodes, out, parted, depth);
         first = false;
         left -= 1;
     }
@@ -315,6 +331,9 @@ pub fn write_field(
     let spaced = cursor::put_spaces(out, noted, indent);
     let flags = cursor::number_at(nodes, at.node, 2);
     let head = write_field_head(text, nodes, out, cursor::pass_node(spaced), at.node, flags);
+    if cursor::parent_at(nodes, head.node) != at.node {
+        return cursor::put(out, head, b",\n"); // no annotations
+    }
     let annotated = write_annotations(text, nodes, out, head, at.node);
     cursor::put(out, annotated, b",\n")
 }
