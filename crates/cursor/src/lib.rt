@@ -61,6 +61,29 @@ pub fn parent_at(table: &[u32], row: u32) -> u32
     }
 }
 
+// A part of the text, from an index to an index.
+struct Part {
+    start: u32,
+    end: u32,
+}
+
+// The part that a record tells of; 0 for a number that the table does not hold.
+fn part_at(table: &[u32], row: u32) -> Part
+    ensures { λ r. ⌜ (r .start ≡ numberAt (now (table .entry)) row 3) × (r .end ≡ numberAt (now (table .entry)) row 6) ⌝ }
+{
+    let at = row as usize * WIDTH;
+    if table.len() < at + WIDTH {
+        return Part {
+            start: number_at(table, row, 3),
+            end: number_at(table, row, 6),
+        };
+    }
+    Part {
+        start: table[at + 3],
+        end: table[at + 6],
+    }
+}
+
 // Past a node record.
 pub fn pass_node(at: Cursor) -> Cursor
     ensures { λ r. ⌜ Moves (passNode) at r ⌝ }
@@ -146,9 +169,8 @@ pub fn put_part(text: &[u8], out: &mut [u8], at: Cursor, start: u32, end: u32) -
 pub fn put_token(text: &[u8], nodes: &[u32], out: &mut [u8], at: Cursor) -> Cursor
     ensures { λ r. ⌜ Writes (tokenOut (now (text .entry)) (now (nodes .entry))) at r (now (out .entry)) (now (out .exit)) ⌝ }
 {
-    let start = number_at(nodes, at.node, 3);
-    let end = number_at(nodes, at.node, 6);
-    let behind = put_part(text, out, at, start, end);
+    let part = part_at(nodes, at.node);
+    let behind = put_part(text, out, at, part.start, part.end);
     pass_node(behind)
 }
 
@@ -181,10 +203,9 @@ pub fn put_spaces(out: &mut [u8], at: Cursor, count: u32) -> Cursor
 fn put_comment(text: &[u8], comments: &[u32], out: &mut [u8], at: Cursor, indent: u32) -> Cursor
     ensures { λ r. ⌜ Writes (commentOut (now (text .entry)) (now (comments .entry)) indent) at r (now (out .entry)) (now (out .exit)) ⌝ }
 {
-    let start = number_at(comments, at.comment, 3);
-    let end = number_at(comments, at.comment, 6);
+    let part = part_at(comments, at.comment);
     let spaced = put_spaces(out, at, indent);
-    let noted = put_part(text, out, spaced, start, end);
+    let noted = put_part(text, out, spaced, part.start, part.end);
     let ended = put(out, noted, b"\n");
     pass_comment(ended)
 }

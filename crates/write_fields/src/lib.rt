@@ -92,14 +92,8 @@ fn write_list(text: &[u8], nodes: &[u32], out: &mut [u8], at: Cursor, depth: u32
     cursor::put(out, inner, b"]")
 }
 
-// an element; most are one token
-fn write_element(
-    text: &[u8],
-    nodes: &[u32],
-    out: &mut [u8],
-    at: Cursor,
-    depth: u32,
-) -> Cursor
+// an element or a default; most are one token
+fn write_element(text: &[u8], nodes: &[u32], out: &mut [u8], at: Cursor, depth: u32) -> Cursor
     ensures { λ r. ⌜ Writes (valueOut (now (text .entry)) (now (nodes .entry)) (room (now (nodes .entry))) depth) at r (now (out .entry)) (now (out .exit)) ⌝ }
 {
     if cursor::kind_at(nodes, at.node) < ast::kind::LIST_VALUE {
@@ -270,7 +264,7 @@ fn write_default(text: &[u8], nodes: &[u32], out: &mut [u8], at: Cursor, owner: 
         return at;
     }
     let equals = cursor::put(out, at, b" = ");
-    write_value(text, nodes, out, equals, NESTING)
+    write_element(text, nodes, out, equals, NESTING)
 }
 
 // the same of an enum member, whose value is one token
@@ -290,11 +284,21 @@ pub fn write_initializer(
     cursor::put_token(text, nodes, out, equals)
 }
 
+// a type that stands in no container; most are one token
+fn write_outer_type(text: &[u8], nodes: &[u32], out: &mut [u8], at: Cursor) -> Cursor
+    ensures { λ r. ⌜ Writes (typeOut (now (text .entry)) (now (nodes .entry)) (room (now (nodes .entry))) 32) at r (now (out .entry)) (now (out .exit)) ⌝ }
+{
+    if cursor::kind_at(nodes, at.node) < ast::kind::LIST {
+        return cursor::put_token(text, nodes, out, at);
+    }
+    write_type(text, nodes, out, at, NESTING)
+}
+
 // a type, a space, a name
 pub fn write_typed_name(text: &[u8], nodes: &[u32], out: &mut [u8], at: Cursor) -> Cursor
     ensures { λ r. ⌜ Writes (typedNameOut (now (text .entry)) (now (nodes .entry)) (room (now (nodes .entry)))) at r (now (out .entry)) (now (out .exit)) ⌝ }
 {
-    let typed = write_type(text, nodes, out, at, NESTING);
+    let typed = write_outer_type(text, nodes, out, at);
     let parted = cursor::put(out, typed, b" ");
     cursor::put_token(text, nodes, out, parted)
 }
