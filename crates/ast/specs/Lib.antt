@@ -5,3 +5,4 @@ pub mod Records
 pub mod Lists
 pub mod Drop
 pub mod Numbered
+pub mod Largest

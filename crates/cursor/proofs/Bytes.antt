@@ -1,19 +1,21 @@
 -- Bytes that are copied into the output, and parts of the text.
 --     number-in, number-past             a number of a record, and one behind the table's end
+--     kind-in, kind-past                 a record's kind, and none behind the last record; parent-in, parent-past: its parent
 --     copy-step, copy-done               a copy, byte by byte
+--     wipe-step, wipe-done               bytes that become 0, one by one
 --     put-in, put-past, put-over         bytes that the output holds, and bytes that it does not
 --     part-past, part-back, part-in      a part that ends behind the text, one that ends before it starts, and one that lies in the text
-use mathlib.Core.Path.{_≡_, sym, _∙_}
+use mathlib.Core.Path.{_≡_, sym, ap, _∙_}
 use mathlib.Core.List.{List, _++_, append-nil}
-use Prim.Native.Nat.{ℕ, suc, _+_, _*_, _-_, _≤_, _<_}
+use Prim.Native.Nat.{ℕ, suc, _+_, _*_, _-_, _/_, _≤_, _<_}
 use native.Mathlib.Omega.{arith}
 use borrow.Author.Tests.{lt-ltb, le-ltb, le-leb, lt-leb}
-use lib.ListN.{length, take, drop, set, getD, length-drop, drop-of-length-le, List·getD-eq-default}
-use lib.Seq.{take-all, take-suc, drop-cons, drop-drop, set-at, append-snoc, length-take-le}
+use lib.ListN.{length, take, drop, set, replicate, getD, length-set, length-drop, drop-of-length-le, List·getD-eq-default}
+use lib.Seq.{take-all, take-suc, take-suc-set, drop-cons, drop-drop, set-at, append-snoc, length-take-le}
 use borrow.Rule.Slice.PartMut.{putMid}
-use Rattle.ast.specs.Records.{width}
+use Rattle.ast.specs.Records.{width, noParent, room}
 use Rattle.cursor.specs.declared.Cursor.{Cursor}
-use Rattle.cursor.specs.Onto.{Reached, reached, numberAt, putOut, partOut}
+use Rattle.cursor.specs.Onto.{Reached, reached, numberAt, kindAt, parentAt, putOut, partOut}
 
 -- ---- number_at
 
@@ -24,6 +26,25 @@ module _ (t : List ℕ) (r k : ℕ) where
 
   pub number-past : k < 9 → length t ≤ r * 9 + k → 0 ≡ numberAt t r k
   number-past h l = sym (List·getD-eq-default t 0 l) ∙ number-in h
+
+-- ---- kind_at and parent_at
+
+module _ (t : List ℕ) (r : ℕ) where
+  pub kind-in : r * 9 + 9 ≤ length t → getD t (r * 9) 0 ≡ kindAt t (room t) r
+  unfolding kindAt numberAt room width
+  kind-in h = let e : r * 9 ≡ r * 9 + 0 = omega arith in rw (lt-ltb r (length t / 9) (omega arith)) (ap (λ (i : ℕ). getD t i 0) e)
+
+  pub kind-past : length t < r * 9 + 9 → 0 ≡ kindAt t (room t) r
+  unfolding kindAt room width
+  kind-past h = rw (le-ltb r (length t / 9) (omega arith))
+
+  pub parent-in : r * 9 + 9 ≤ length t → getD t (r * 9 + 1) 0 ≡ parentAt t (room t) r
+  unfolding parentAt numberAt room width
+  parent-in h = rw (lt-ltb r (length t / 9) (omega arith))
+
+  pub parent-past : length t < r * 9 + 9 → 4294967295 ≡ parentAt t (room t) r
+  unfolding parentAt noParent room width
+  parent-past h = rw (le-ltb r (length t / 9) (omega arith))
 
 -- ---- copy
 
@@ -40,6 +61,20 @@ copy-step i b o out h l e =
 
 pub copy-done : (i : ℕ) (b o out : List ℕ) → i ≤ length b → length b ≤ i → out ≡ copied i b o → out ≡ b ++ drop (length b) o
 copy-done i b o out h l e = let n : i ≡ length b = omega arith in e ∙ rw (n, take-all (length b) b (omega arith))
+
+-- ---- clear
+
+abbrev pub wiped : ℕ → List ℕ → List ℕ
+wiped i t = take i t ++ replicate (length t - i) 0
+
+pub wipe-step : (i : ℕ) (t : List ℕ) → i < length t → wiped (i + 1) (set t i 0) ≡ wiped i t
+wipe-step i t h =
+    let e : i + 1 ≡ suc i = omega arith in
+    let n : length t - i ≡ suc (length t - suc i) = omega arith in
+    rw (length-set, e, take-suc-set t i 0 h, n) (append-snoc (take i t) 0 (replicate (length t - suc i) 0))
+
+pub wipe-done : (i : ℕ) (t : List ℕ) → length t ≤ i → wiped i t ≡ t
+wipe-done i t h = let n : length t - i ≡ 0 = omega arith in rw (n, take-all i t h) (append-nil t)
 
 -- ---- put
 

@@ -1,16 +1,18 @@
 -- A token and a comment, and one turn of the printer's loops over spaces, comments and nodes: Z is what the whole loop makes.
 --     token-is, comment-is                          put_token, put_comment
---     spaces-none, spaces-turn                      put_spaces
+--     spaces-none, spaces-turn, spaces-full         put_spaces
 --     comments-none, comments-stop, comments-turn   put_comments
 --     passed-none, passed-stop, passed-turn         pass_comments
 --     below-none, below-stop, below-turn            pass_below
 use mathlib.Core.Path.{_≡_, refl, sym, ap, _∙_}
 use mathlib.Core.Bool.{Bool, true, false, cond}
 use mathlib.Core.List.{List, [], _∷_}
-use Prim.Native.Nat.{ℕ, suc, _-_, _≤_, _<_}
+use Prim.Native.Nat.{ℕ, zero, suc, _+_, _-_, _≤_, _<_}
 use native.Mathlib.Omega.{arith}
-use borrow.Author.Tests.{eq-eqb, ne-eqb}
+use borrow.Author.Tests.{eq-eqb, ne-eqb, le-leb, lt-leb}
 use lib.Dec.{eqb}
+use lib.ListN.{length, take, drop, set}
+use lib.Seq.{set-split}
 use Rattle.token.specs.Regex.{bytes as ascii}
 use Rattle.cursor.specs.declared.Cursor.{Cursor}
 use Rattle.cursor.specs.Onto.{Reached, reached, then, _⨟_, stay, numberAt, putOut, sayOut, partOut, tokenOut, spacesOut, parentAt, commentOut, commentsFrom, passComment, passCommentsFrom, passNode, below, passBelowFrom}
@@ -47,17 +49,39 @@ module _ (text t : List ℕ) (a b : ℕ) (p : Cursor) (o : List ℕ) where
 
 -- ---- put_spaces
 
-module _ (Z : Reached) (n : ℕ) (p : Cursor) (o : List ℕ) (v : Z ≡ spacesOut n p o) where
-  pub spaces-none : n ≤ 0 → reached p o ≡ Z
+-- at these two records, with so many bytes printed
+abbrev pub upTo : ℕ → ℕ → ℕ → Cursor
+upTo a b l = record { node = a; comment = b; length = l }
+
+one-space : (a b l : ℕ) (o : List ℕ) → l < length o → putOut (32 ∷ []) (upTo a b l) o ≡ reached (upTo a b (l + 1)) (set o l 32)
+unfolding putOut
+one-space a b l o h =
+    let e : l + 1 ≡ suc l = omega arith in
+    rw (le-leb (l + 1) (length o) (omega arith), set-split o l 32 h, e)
+
+no-space : (a b l : ℕ) (o : List ℕ) → length o ≤ l → putOut (32 ∷ []) (upTo a b l) o ≡ reached (upTo a b (length o + 1)) o
+unfolding putOut
+no-space a b l o h = rw (lt-leb (l + 1) (length o) (omega arith))
+
+spaces-over : (a b n : ℕ) (o : List ℕ) → spacesOut n (upTo a b (length o + 1)) o ≡ reached (upTo a b (length o + 1)) o
+unfolding spacesOut stay sayOut ascii then
+spaces-over a b zero o = refl
+spaces-over a b (suc n) o = rw (no-space a b (length o + 1) o (omega arith)) (spaces-over a b n o)
+
+module _ (Z : Reached) (n a b l : ℕ) (o : List ℕ) (v : Z ≡ spacesOut n (upTo a b l) o) where
+  pub spaces-none : n ≤ 0 → reached (upTo a b l) o ≡ Z
   unfolding spacesOut stay
-  spaces-none h = let e : n ≡ 0 = omega arith in sym (v ∙ ap (λ (k : ℕ). spacesOut k p o) e)
+  spaces-none h = let e : n ≡ 0 = omega arith in sym (v ∙ ap (λ (k : ℕ). spacesOut k (upTo a b l) o) e)
 
-  spaces-one : 0 < n → Z ≡ then (putOut (32 ∷ []) p o) (spacesOut (n - 1))
+  spaces-one : 0 < n → Z ≡ then (putOut (32 ∷ []) (upTo a b l) o) (spacesOut (n - 1))
   unfolding spacesOut sayOut ascii
-  spaces-one h = let e : n ≡ suc (n - 1) = omega arith in v ∙ ap (λ (k : ℕ). spacesOut k p o) e
+  spaces-one h = let e : n ≡ suc (n - 1) = omega arith in v ∙ ap (λ (k : ℕ). spacesOut k (upTo a b l) o) e
 
-  pub spaces-turn : (q : Cursor) (o′ : List ℕ) → 0 < n → reached q o′ ≡ putOut (32 ∷ []) p o → Z ≡ spacesOut (n - 1) q o′
-  spaces-turn q o′ h e = kept Z _ _ (spaces-one h) q o′ e
+  pub spaces-turn : 0 < n → l < length o → Z ≡ spacesOut (n - 1) (upTo a b (l + 1)) (set o l 32)
+  spaces-turn h k = kept Z _ _ (spaces-one h) _ _ (sym (one-space a b l o k))
+
+  pub spaces-full : 0 < n → length o ≤ l → reached (upTo a b (length o + 1)) o ≡ Z
+  spaces-full h k = sym (kept Z _ _ (spaces-one h) _ _ (sym (no-space a b l o k)) ∙ spaces-over a b (n - 1) o)
 
 -- ---- put_comments
 

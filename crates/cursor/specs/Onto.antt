@@ -8,6 +8,7 @@ use Prim.Native.String.{String}
 use lib.Dec.{eqb, ltb, leb}
 use lib.ListN.{length, take, drop, getD}
 use Rattle.token.specs.Regex.{bytes as ascii}
+use Rattle.ast.specs.Largest.{bump}
 use Rattle.ast.specs.Records.{width, noParent}
 use Rattle.cursor.specs.declared.Cursor.{Cursor}
 
@@ -31,9 +32,6 @@ Writes m p r o o′ = reached r o′ ≡ m p o
 
 abbrev pub Moves : W → Cursor → Cursor → Type 0
 Moves m p r = (o : List ℕ) → reached r o ≡ m p o
-
-unfoldable pub bump : ℕ → ℕ
-bump n = cond (ltb n 4294967295) (n + 1) n
 
 -- a number of a record
 unfoldable pub numberAt : List ℕ → ℕ → ℕ → ℕ

@@ -2,14 +2,12 @@
 
 ghost use mathlib.Core.Path.{_≡_};
 ghost use mathlib.Core.List.{_++_};
-ghost use Prim.Native.Nat.{_≤_};
-ghost use lib.ListN.{length, drop};
-ghost use Rattle.cursor.specs.Onto.{Writes, Moves, bump, numberAt, kindAt, parentAt, passNode, passComment, putOut, partOut, tokenOut, spacesOut, commentOut, commentsOut, passComments, below, passBelow};
-// The record's width.
-const WIDTH: usize = 9;
-
-// The parent of a definition, and of what lies behind the last record.
-const NO_PARENT: u32 = 4294967295;
+ghost use Prim.Native.Nat.{_-_, _≤_};
+ghost use lib.ListN.{length, take, drop, replicate};
+ghost use Rattle.ast.specs.Records.{room};
+ghost use Rattle.cursor.specs.Onto.{Writes, Moves, numberAt, kindAt, parentAt, passNode, passComment, putOut, partOut, tokenOut, spacesOut, commentOut, commentsOut, passComments, below, passBelow};
+use ast::NO_PARENT;
+use ast::WIDTH;
 
 // The next node record, the next comment record, and how many bytes were printed; one more than the output holds where they did not fit.
 pub struct Cursor {
@@ -18,18 +16,11 @@ pub struct Cursor {
     pub length: usize,
 }
 
-// One more; never past the largest number.
-pub fn bump(n: u32) -> u32
-    ensures { λ r. ⌜ r ≡ bump n ⌝ }
-{
-    if n < 4294967295 { n + 1 } else { n }
-}
-
 // A number of a record; 0 where the table does not hold it.
 pub fn number_at(table: &[u32], row: u32, k: usize) -> u32
     ensures { λ r. ⌜ r ≡ numberAt (now (table .entry)) row k ⌝ }
 {
-    if 9 <= k {
+    if WIDTH <= k {
         return 0;
     }
     let at = row as usize * WIDTH + k;
@@ -37,24 +28,49 @@ pub fn number_at(table: &[u32], row: u32, k: usize) -> u32
 }
 
 // The kind of a node record; 0 behind the last one.
-pub fn kind_at(nodes: &[u32], count: u32, row: u32) -> u32
-    ensures { λ r. ⌜ r ≡ kindAt (now (nodes .entry)) count row ⌝ }
+pub fn kind_at(nodes: &[u32], row: u32) -> u32
+    ensures { λ r. ⌜ r ≡ kindAt (now (nodes .entry)) (room (now (nodes .entry))) row ⌝ }
 {
-    if row < count {
-        number_at(nodes, row, 0)
+    let at = row as usize * WIDTH;
+    if at + WIDTH <= nodes.len() {
+        nodes[at]
     } else {
         0
     }
 }
 
 // The parent of a record.
-pub fn parent_at(table: &[u32], count: u32, row: u32) -> u32
-    ensures { λ r. ⌜ r ≡ parentAt (now (table .entry)) count row ⌝ }
+pub fn parent_at(table: &[u32], row: u32) -> u32
+    ensures { λ r. ⌜ r ≡ parentAt (now (table .entry)) (room (now (table .entry))) row ⌝ }
 {
-    if row < count {
-        number_at(table, row, 1)
+    let at = row as usize * WIDTH;
+    if at + WIDTH <= table.len() {
+        table[at + 1]
     } else {
         NO_PARENT
+    }
+}
+
+// A part of the text, from an index to an index.
+struct Part {
+    start: u32,
+    end: u32,
+}
+
+// The part that a record tells of; 0 for a number that the table does not hold.
+fn part_at(table: &[u32], row: u32) -> Part
+    ensures { λ r. ⌜ (r .start ≡ numberAt (now (table .entry)) row 3) × (r .end ≡ numberAt (now (table .entry)) row 6) ⌝ }
+{
+    let at = row as usize * WIDTH;
+    if table.len() < at + WIDTH {
+        return Part {
+            start: number_at(table, row, 3),
+            end: number_at(table, row, 6),
+        };
+    }
+    Part {
+        start: table[at + 3],
+        end: table[at + 6],
     }
 }
 
@@ -63,7 +79,7 @@ pub fn pass_node(at: Cursor) -> Cursor
     ensures { λ r. ⌜ Moves (passNode) at r ⌝ }
 {
     Cursor {
-        node: bump(at.node),
+        node: ast::bump(at.node),
         comment: at.comment,
         length: at.length,
     }
@@ -75,7 +91,7 @@ pub fn pass_comment(at: Cursor) -> Cursor
 {
     Cursor {
         node: at.node,
-        comment: bump(at.comment),
+        comment: ast::bump(at.comment),
         length: at.length,
     }
 }
@@ -88,6 +104,18 @@ pub fn copy(out: &mut [u8], bytes: &[u8])
     let mut i: usize = 0;
     while i < bytes.len() {
         out[i] = bytes[i];
+        i += 1;
+    }
+}
+
+// Bytes become 0 from an index on.
+pub fn clear(bytes: &mut [u8], from: usize)
+    requires { ⌜ from ≤ length (now bytes) ⌝ }
+    ensures { λ _. ⌜ now (bytes .exit) ≡ take from (now (bytes .entry)) ++ replicate (length (now (bytes .entry)) - from) 0 ⌝ }
+{
+    let mut i = from;
+    while i < bytes.len() {
+        bytes[i] = 0;
         i += 1;
     }
 }
@@ -131,53 +159,61 @@ pub fn put_part(text: &[u8], out: &mut [u8], at: Cursor, start: u32, end: u32) -
 pub fn put_token(text: &[u8], nodes: &[u32], out: &mut [u8], at: Cursor) -> Cursor
     ensures { λ r. ⌜ Writes (tokenOut (now (text .entry)) (now (nodes .entry))) at r (now (out .entry)) (now (out .exit)) ⌝ }
 {
-    let start = number_at(nodes, at.node, 3);
-    let end = number_at(nodes, at.node, 6);
-    let behind = put_part(text, out, at, start, end);
+    let part = part_at(nodes, at.node);
+    let behind = put_part(text, out, at, part.start, part.end);
     pass_node(behind)
 }
 
-// Prints so many spaces.
+// Prints so many spaces, or as many as the output holds.
 pub fn put_spaces(out: &mut [u8], at: Cursor, count: u32) -> Cursor
     ensures { λ r. ⌜ Writes (spacesOut count) at r (now (out .entry)) (now (out .exit)) ⌝ }
 {
-    let mut now = at;
+    let mut length = at.length;
     let mut spaces = count;
     while 0 < spaces {
-        now = put(out, now, b" ");
+        if out.len() <= length {
+            return Cursor {
+                node: at.node,
+                comment: at.comment,
+                length: out.len() + 1,
+            };
+        }
+        out[length] = b' ';
+        length += 1;
         spaces -= 1;
     }
-    now
+    Cursor {
+        node: at.node,
+        comment: at.comment,
+        length,
+    }
 }
 
 // The comment ahead, on a line of its own behind the indent.
 fn put_comment(text: &[u8], comments: &[u32], out: &mut [u8], at: Cursor, indent: u32) -> Cursor
     ensures { λ r. ⌜ Writes (commentOut (now (text .entry)) (now (comments .entry)) indent) at r (now (out .entry)) (now (out .exit)) ⌝ }
 {
-    let start = number_at(comments, at.comment, 3);
-    let end = number_at(comments, at.comment, 6);
+    let part = part_at(comments, at.comment);
     let spaced = put_spaces(out, at, indent);
-    let noted = put_part(text, out, spaced, start, end);
+    let noted = put_part(text, out, spaced, part.start, part.end);
     let ended = put(out, noted, b"\n");
     pass_comment(ended)
 }
 
-// write_comments: those of a node.
+// write_comments: those of the next node.
 pub fn put_comments(
     text: &[u8],
     comments: &[u32],
-    total: u32,
     out: &mut [u8],
     at: Cursor,
-    owner: u32,
     indent: u32,
 ) -> Cursor
-    ensures { λ r. ⌜ Writes (commentsOut (now (text .entry)) (now (comments .entry)) total owner indent) at r (now (out .entry)) (now (out .exit)) ⌝ }
+    ensures { λ r. ⌜ Writes (commentsOut (now (text .entry)) (now (comments .entry)) (room (now (comments .entry))) (at .node) indent) at r (now (out .entry)) (now (out .exit)) ⌝ }
 {
     let mut now = at;
-    let mut left = total;
+    let mut left = comments.len() / WIDTH;
     while 0 < left {
-        if parent_at(comments, total, now.comment) != owner {
+        if parent_at(comments, now.comment) != at.node {
             return now;
         }
         now = put_comment(text, comments, out, now, indent);
@@ -186,14 +222,14 @@ pub fn put_comments(
     now
 }
 
-// Past the comments of a node.
-pub fn pass_comments(comments: &[u32], total: u32, at: Cursor, owner: u32) -> Cursor
-    ensures { λ r. ⌜ Moves (passComments (now (comments .entry)) total owner) at r ⌝ }
+// Past the comments of the next node.
+pub fn pass_comments(comments: &[u32], at: Cursor) -> Cursor
+    ensures { λ r. ⌜ Moves (passComments (now (comments .entry)) (room (now (comments .entry))) (at .node)) at r ⌝ }
 {
     let mut now = at;
-    let mut left = total;
+    let mut left = comments.len() / WIDTH;
     while 0 < left {
-        if parent_at(comments, total, now.comment) != owner {
+        if parent_at(comments, now.comment) != at.node {
             return now;
         }
         now = pass_comment(now);
@@ -216,13 +252,13 @@ fn is_below(owner: u32, parent: u32) -> bool
 }
 
 // Past all that stands below a node.
-pub fn pass_below(nodes: &[u32], count: u32, at: Cursor, owner: u32) -> Cursor
-    ensures { λ r. ⌜ Moves (passBelow (now (nodes .entry)) count owner) at r ⌝ }
+pub fn pass_below(nodes: &[u32], at: Cursor, owner: u32) -> Cursor
+    ensures { λ r. ⌜ Moves (passBelow (now (nodes .entry)) (room (now (nodes .entry))) owner) at r ⌝ }
 {
     let mut now = at;
-    let mut left = count;
+    let mut left = nodes.len() / WIDTH;
     while 0 < left {
-        if !is_below(owner, parent_at(nodes, count, now.node)) {
+        if !is_below(owner, parent_at(nodes, now.node)) {
             return now;
         }
         now = pass_node(now);

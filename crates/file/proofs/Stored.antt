@@ -18,7 +18,6 @@ use lib.ListN.{length, take, drop, getD, replicate, length-append, length-take, 
 use lib.Seq.{take-all, take-at, drop-cons, length-take-le}
 use Rattle.lexer.specs.Outcome.{Outcome, accepted, refused}
 use Rattle.ast.specs.Records.{nodeRows, notes, room}
-use Rattle.steps.specs.Into.{wiped}
 use Rattle.parser.specs.declared.Answer.{Answer}
 use Rattle.ast.specs.Ast.{Definition}
 use Rattle.parser.specs.Read.{fitted, Reading, reading}
@@ -84,8 +83,8 @@ module _ (p : Printed) (out : List ℕ) (f : File) where
     store-long l = rw (h, lt-leb b (length (f .space)) l)
 
     pub store-in : (copied space′ : List ℕ) → b ≤ length (f .space) → b ≤ length out → copied ≡ take b out ++ drop (length (take b out)) (f .space)
-        → length copied ≡ length (f .space) → space′ ≡ wiped b copied → fileOf b space′ ≡ keptIn (said p) out f
-    unfolding keptIn said wiped W.written
+        → length copied ≡ length (f .space) → space′ ≡ take b copied ++ replicate (length copied - b) 0 → fileOf b space′ ≡ keptIn (said p) out f
+    unfolding keptIn said W.written
     store-in copied space′ l k e s w =
         let t : length (take b out) ≡ b = length-take-le b out k in
         let u : take b copied ≡ take b out = ap (take b) e ∙ take-at (take b out) (drop (length (take b out)) (f .space)) b t in

@@ -68,7 +68,7 @@ fn store(space: &mut [u8], file: usize, printed: Printed, out: &[u8]) -> usize
         return file;
     }
     cursor::copy(space, &out[..bytes]);
-    printer::clear(space, bytes);
+    cursor::clear(space, bytes);
     bytes
 }
 

@@ -44,7 +44,7 @@ fn close(rest: &mut [u32], st: State, state: State, kind: u32)
     let start = loc.start;
     let whole = Parent {
         base: st.next,
-        node: 4294967295,
+        node: ast::NO_PARENT,
     };
     state.put_node(rest, st.next, kind, 0, start, whole);
 }

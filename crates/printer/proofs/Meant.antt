@@ -9,7 +9,7 @@ use mathlib.Core.List.{List, [], _∷_, _++_, append-nil, append-assoc}
 use Prim.Native.Nat.{ℕ, suc, _+_, _*_, _-_, _/_, _≤_, _<_}
 use native.Mathlib.Omega.{arith}
 use lib.Dec.{ltb}
-use lib.ListN.{length, drop, replicate, length-append, length-drop, length-replicate}
+use lib.ListN.{length, take, drop, replicate, length-append, length-drop, length-replicate}
 use lib.Seq.{take-append-seam}
 use borrow.Author.Tests.{ltb-false, lt-ltb, le-ltb}
 use Rattle.lexer.specs.Outcome.{Outcome, accepted, refused}
@@ -24,13 +24,13 @@ use Rattle.ast.proofs.Counts.{node-rows-wide, notes-wide, concat-width, filled-
 use Rattle.parser.specs.Steps.{Res, ok, no}
 use Rattle.parser.specs.Read as R
 use Rattle.parser.specs.Read.{parsed, answered, outcomeBy, outcome, left, rowsBy, reading}
-use Rattle.steps.specs.Into.{wiped}
+use Rattle.steps.specs.Into.{restAt, wiped}
 use Rattle.parser.proofs.Lexemes.{Stands, tokens-stand, HasRule, tokens-ruled, EachDefinition, document-each}
 use Rattle.parser.proofs.Paid.{nodes-most, notes-most}
 use Rattle.writer.specs.Print.{bytesOf, pieces, printed}
 use Rattle.writer.specs.Write.{widest, outcomeAt, fittedOut, answer, written, printOf, Printing, printing}
 use Rattle.cursor.specs.Onto.{Reached}
-use Rattle.printer.specs.Onto.{opening, refusing, fits, ended, writing, byAnswer, byReading, all}
+use Rattle.printer.specs.Onto.{opening, refusing, fits, ended, used, writing, byAnswer, byReading, all}
 use Rattle.write_fields.proofs.Ahead.{Rows, under, unders, ownedBefore, noted, noteds, Ahead, Fits, Over, Got, got, Job, At}
 use Rattle.write_fields.proofs.PrintedLeaves.{Good}
 use Rattle.write_definitions.proofs.PrintedDefinitions.{document-printed}
@@ -77,20 +77,39 @@ notes-rows-under : (ds : List Definition) → notes ds ≡ noteds (each definiti
 unfolding notes forest
 notes-rows-under ds = sym (append-nil (commentRowsOf (each definitionTree ds bare) 0)) ∙ notes-forest (each definitionTree ds bare) 0 []
 
--- a filled table holds its rows
-ahead-filled : (rs X : Rows) (t : List ℕ) → rs ≡ X → Ahead (filled rs t) (length rs) 0 X
-unfolding filled width
-ahead-filled rs X t e =
+-- rows end to end are those rows
+ahead-rows : (rs X : Rows) → rs ≡ X → Ahead (concat rs) (length rs) 0 X
+unfolding width
+ahead-rows rs X e =
     record {
-      pad = replicate (length t - length (concat rs)) 0;
-      lies = ap (λ (y : Rows). concat y ++ replicate (length t - length (concat rs)) 0) e;
+      pad = [];
+      lies = ap concat e ∙ sym (append-nil (concat X));
       counts = let h : length X ≡ length rs = ap length (sym e) in omega (arith, h);
     }
+
+rows-room : (rs : Rows) → length (concat rs) ≡ length rs * width → room (concat rs) ≡ length rs
+unfolding room width
+rows-room rs w = omega (arith, w)
 
 -- rows that the table has room for
 fills : (rs : Rows) (t : List ℕ) → length (concat rs) ≡ length rs * width → ltb (room t) (length rs) ≡ false → length (filled rs t) ≡ length t
 unfolding room width
 fills rs t w e = filled-length rs t (omega (arith, ltb-false (length t / 9) (length rs) e, w))
+
+-- and the part of it that they fill
+used-end : (rs : Rows) (t : List ℕ) → length (concat rs) ≡ length rs * width → ltb (room t) (length rs) ≡ false → restAt (length (filled rs t)) (length rs) ≡ length (concat rs)
+unfolding restAt room width
+used-end rs t w e = go (ltb (length rs * 9) (length (filled rs t))) refl
+  where
+    go : (b : Bool) → ltb (length rs * 9) (length (filled rs t)) ≡ b → restAt (length (filled rs t)) (length rs) ≡ length (concat rs)
+    go true h = rw h (omega (arith, w))
+    go false h = rw h (omega (arith, w, fills rs t w e, ltb-false (length t / 9) (length rs) e, ltb-false (length rs * 9) (length (filled rs t)) h))
+
+used-filled : (rs : Rows) (t : List ℕ) → length (concat rs) ≡ length rs * width → ltb (room t) (length rs) ≡ false → used (length rs) (filled rs t) ≡ concat rs
+unfolding used filled
+used-filled rs t w e =
+    ap (λ (n : ℕ). take n (concat rs ++ replicate (length t - length (concat rs)) 0)) (used-end rs t w e)
+    ∙ take-append-seam (concat rs) (replicate (length t - length (concat rs)) 0)
 
 -- ---- what is lent and cleared again
 
@@ -143,9 +162,9 @@ module _ (text : List ℕ) (indent : ℕ) (t u o : List ℕ) (ds : List Definiti
   job =
       record {
         text = text;
-        nodes = filled (nodeRows ds) t;
+        nodes = concat (nodeRows ds);
         count = length (nodeRows ds);
-        comments = filled (notes ds) u;
+        comments = concat (notes ds);
         total = length (notes ds);
         start = o;
         whole = printed indent ds;
@@ -158,8 +177,8 @@ module _ (text : List ℕ) (indent : ℕ) (t u o : List ℕ) (ds : List Definiti
   at-first =
       record {
         node = refl;
-        nodes-ahead = ahead-filled (nodeRows ds) _ t (node-rows-under ds);
-        notes-ahead = ahead-filled (notes ds) _ u (notes-rows-under ds);
+        nodes-ahead = ahead-rows (nodeRows ds) _ (node-rows-under ds);
+        notes-ahead = ahead-rows (notes ds) _ (notes-rows-under ds);
         bytes = inl (record { done = []; all = refl; inside = omega arith; long = refl; out = refl });
       }
 
@@ -197,7 +216,11 @@ module _ (text : List ℕ) (indent : ℕ) (t u o : List ℕ) (ds : List Definiti
 
   written-means : writing text indent (length (nodeRows ds)) (length (notes ds)) (filled (nodeRows ds) t) (filled (notes ds) u) o ≡ result
   unfolding writing pieces
-  written-means = at-last (document-printed job indent ds opening o good at-first)
+  written-means =
+      let wide = concat-width (node-rows-wide ds) in
+      let broad = concat-width (notes-wide ds) in
+      rw (used-filled (nodeRows ds) t wide t-room, used-filled (notes ds) u broad u-room, rows-room (nodeRows ds) wide, rows-room (notes ds) broad)
+      (at-last (document-printed job indent ds opening o good at-first))
 
 -- ---- the whole
 

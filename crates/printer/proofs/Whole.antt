@@ -1,26 +1,47 @@
 -- The writing of both tables, and the whole printing, in code.
+--     refused-is, fits-is          all wiped; the output wiped behind the print
 --     written-is                   what the writing of the document left, if it fits
 --     all-long, all-wide           20 and 26
 --     all-refused, all-accepted    the reading refused the text, and the reading accepted it
 use mathlib.Core.Path.{_≡_, sym, ap, _∙_}
-use mathlib.Core.List.{List}
-use Prim.Native.Nat.{ℕ, _≤_, _<_}
+use mathlib.Core.List.{List, [], _∷_, _++_}
+use Prim.Native.Nat.{ℕ, _-_, _≤_, _<_}
 use borrow.Author.Tests.{lt-ltb, le-ltb}
-use lib.ListN.{length}
+use lib.ListN.{length, take, replicate}
+use Rattle.ast.specs.Records.{room}
 use Rattle.parser.specs.declared.Answer.{Answer}
 use Rattle.parser.specs.declared.Answer.the-variants as A
 use Rattle.parser.specs.Read.{Reading, reading, said, told as read-told}
+use Rattle.steps.specs.Into.{restAt, wiped}
+use Rattle.steps.proofs.Cells.{wipe-all}
+use Rattle.lexer.specs.Outcome.{accepted, refused}
 use Rattle.lexer.specs.Check.{limit}
 use Rattle.writer.specs.Write.{widest, Printing}
 use Rattle.cursor.specs.declared.Cursor.{Cursor}
 use Rattle.cursor.specs.Onto.{Reached, reached}
 use Rattle.write_definitions.specs.Onto.{documentOut}
-use Rattle.printer.specs.Onto.{opening, refusing, fits, ended, writing, byAnswer, byReading, all}
+use Rattle.printer.specs.Onto.{opening, refusing, fits, ended, used, writing, byAnswer, byReading, all}
 
-pub written-is : (text : List ℕ) (indent n c : ℕ) (t u o o′ : List ℕ) (p : Cursor) (r : Printing)
-    → reached p o′ ≡ documentOut text t n u c indent (record { node = 0; comment = 0; length = 0 }) o → r ≡ fits n c (p .length) t u o′ → r ≡ writing text indent n c t u o
-unfolding writing ended opening
-written-is text indent n c t u o o′ p r e f = f ∙ ap (λ (i : Reached). ended i n c t u) e
+-- what cursor::clear leaves
+as-wiped : (i : ℕ) (o o′ : List ℕ) → o′ ≡ take i o ++ replicate (length o - i) 0 → o′ ≡ wiped i o
+unfolding wiped
+as-wiped i o o′ e = e
+
+pub refused-is : (e p n : ℕ) (t u o t′ u′ o′ : List ℕ) → t′ ≡ wiped 0 t → u′ ≡ wiped 0 u → o′ ≡ take 0 o ++ replicate (length o - 0) 0
+    → record { says = refused e p n; nodes = t′; comments = u′; output = o′ } ≡ refusing e p n t u o
+unfolding refusing
+refused-is e p n t u o t′ u′ o′ h k l = rw (h, k, as-wiped 0 o o′ l, wipe-all, wipe-all, wipe-all)
+
+pub fits-is : (n c len : ℕ) (t u o o′ : List ℕ) → len ≤ length o → o′ ≡ take len o ++ replicate (length o - len) 0
+    → record { says = accepted (n ∷ c ∷ len ∷ []); nodes = t; comments = u; output = o′ } ≡ fits n c len t u o
+unfolding fits
+fits-is n c len t u o o′ h e = rw (le-ltb (length o) len h, as-wiped len o o′ e)
+
+pub written-is : (text : List ℕ) (indent n c : ℕ) (t u o o′ : List ℕ) (p : Cursor) (r : Printing) (a b : ℕ) → a ≡ restAt (length t) n → b ≡ restAt (length u) c
+    → reached p o′ ≡ documentOut text (take a t) (room (take a t)) (take b u) (room (take b u)) indent (record { node = 0; comment = 0; length = 0 }) o
+    → r ≡ fits n c (p .length) t u o′ → r ≡ writing text indent n c t u o
+unfolding writing used ended opening
+written-is text indent n c t u o o′ p r a b h k e f = f ∙ ap (λ (i : Reached). ended i n c t u) e ∙ rw (h, k)
 
 module _ (text : List ℕ) (indent : ℕ) (t u o : List ℕ) where
   pub all-long : 65536 < length text → refusing 20 0 0 t u o ≡ all text indent t u o

@@ -4,12 +4,12 @@ use mathlib.Core.Bool.{cond}
 use mathlib.Core.List.{List, [], _∷_}
 use Prim.Native.Nat.{ℕ}
 use lib.Dec.{ltb}
-use lib.ListN.{length, getD}
+use lib.ListN.{length, take, getD}
 use Rattle.lexer.specs.Error.{TextTooLong, IndentTooWide, OutputFull}
 use Rattle.lexer.specs.Outcome.{Outcome, accepted, refused}
-use Rattle.ast.specs.Records.{cleared}
+use Rattle.ast.specs.Records.{room, cleared}
 use Rattle.parser.specs.Read.{Reading, reading}
-use Rattle.steps.specs.Into.{wiped}
+use Rattle.steps.specs.Into.{restAt, wiped}
 use Rattle.lexer.specs.Check.{limit}
 use Rattle.writer.specs.Write.{widest, Printing}
 use Rattle.cursor.specs.declared.Cursor.{Cursor}
@@ -32,8 +32,12 @@ fits n c len t u o =
 unfoldable pub ended : Reached → ℕ → ℕ → List ℕ → List ℕ → Printing
 ended (reached p o) n c t u = fits n c (p .length) t u o
 
+-- the first records of a table
+unfoldable pub used : ℕ → List ℕ → List ℕ
+used n t = take (restAt (length t) n) t
+
 unfoldable pub writing : List ℕ → ℕ → ℕ → ℕ → List ℕ → List ℕ → List ℕ → Printing
-writing text indent n c t u o = ended (documentOut text t n u c indent opening o) n c t u
+writing text indent n c t u o = ended (documentOut text (used n t) (room (used n t)) (used c u) (room (used c u)) indent opening o) n c t u
 
 -- by what the reading answered
 unfoldable pub byAnswer : Outcome (List ℕ) → List ℕ → ℕ → List ℕ → List ℕ → List ℕ → Printing

@@ -1,26 +1,12 @@
 // From a text and its tables to its print.
 ghost use mathlib.Core.Path.{_≡_};
-ghost use Prim.Native.Nat.{_≤_};
-ghost use lib.ListN.{length};
-ghost use Rattle.steps.specs.Into.{wiped};
 ghost use Rattle.writer.specs.Write.{told, printing};
 ghost use Rattle.printer.specs.Onto.{refusing, fits, writing};
 use cursor::Cursor;
 use lexer::error;
 use parser::Answer;
+use steps::table;
 use writer::Printed;
-
-// Bytes become 0 from an index on.
-pub fn clear(bytes: &mut [u8], from: usize)
-    requires { ⌜ from ≤ length (now bytes) ⌝ }
-    ensures { λ _. ⌜ now (bytes .exit) ≡ wiped from (now (bytes .entry)) ⌝ }
-{
-    let mut i = from;
-    while i < bytes.len() {
-        bytes[i] = 0;
-        i += 1;
-    }
-}
 
 fn refuse(
     number: u32,
@@ -32,9 +18,9 @@ fn refuse(
 ) -> Printed
     ensures { λ r. ⌜ told r (now (nodes .exit)) (now (comments .exit)) (now (out .exit)) ≡ refusing number place length (now (nodes .entry)) (now (comments .entry)) (now (out .entry)) ⌝ }
 {
-    reader::clear(nodes, 0);
-    reader::clear(comments, 0);
-    clear(out, 0);
+    table::clear(nodes, 0);
+    table::clear(comments, 0);
+    cursor::clear(out, 0);
     Printed::Refused {
         number,
         place,
@@ -56,7 +42,7 @@ fn fit(
     if out.len() < bytes {
         return refuse(error::OUTPUT_FULL, 0, 0, nodes, comments, out);
     }
-    clear(out, bytes);
+    cursor::clear(out, bytes);
     Printed::Accepted {
         nodes: n,
         comments: c,
@@ -81,7 +67,16 @@ fn write(
         comment: 0,
         length: 0,
     };
-    let behind = write_definitions::write_document(text, nodes, n, comments, c, out, at, indent);
+    let last = table::start_of(nodes.len(), n);
+    let end = table::start_of(comments.len(), c);
+    let behind = write_definitions::write_document(
+        text,
+        &nodes[..last],
+        &comments[..end],
+        out,
+        at,
+        indent,
+    );
     fit(n, c, behind.length, nodes, comments, out)
 }
 

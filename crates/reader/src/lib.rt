@@ -4,7 +4,7 @@ ghost use mathlib.Core.List.{List};
 ghost use Prim.Native.Nat.{ℕ, _≤_};
 ghost use lib.ListN.{length};
 ghost use Rattle.parser.specs.Read.{reading, told};
-ghost use Rattle.steps.specs.Into.{Keeps, Lent, Reads, Still, restAt, shows};
+ghost use Rattle.steps.specs.Into.{Keeps, Lent, Reads, Still, shows};
 ghost use Rattle.reader.specs.Into.{restIn, overIn, betweenIn, documentIn, beginning, refusing, ended, refusingAt, fits, judged, unscanned, parsing};
 use lexer::error;
 use lexer::location::LOC;
@@ -17,14 +17,6 @@ use steps::state::State;
 use steps::table;
 use utf8::Found;
 
-// Where record `number` starts in a table.
-fn rest_of(len: usize, number: u32) -> usize
-    ensures { λ r. ⌜ (r ≡ restAt len number) × (r ≤ len) ⌝ }
-{
-    let at = number as usize * table::WIDTH;
-    if at < len { at } else { len }
-}
-
 // The definition, its records in the unused rest of the table.
 fn parse_in_rest(
     lut: &[u8; 768],
@@ -36,7 +28,7 @@ fn parse_in_rest(
     requires { ⌜ Lent (now lut) (now text) ⌝ }
     ensures { λ r. ⌜ Reads (restIn (now (text .entry))) st r (now (nodes .entry)) (now (nodes .exit)) (now (comments .entry)) (now (comments .exit)) ⌝ }
 {
-    let at = rest_of(nodes.len(), st.next);
+    let at = table::start_of(nodes.len(), st.next);
     parse_definitions::parse_definition(lut, text, st, &mut nodes[at..], comments)
 }
 
@@ -155,14 +147,14 @@ fn fit(state: State, nodes: &mut [u32], comments: &mut [u32]) -> Answer
 {
     let next = state.next;
     let owned = state.owned;
-    if nodes.len() / table::WIDTH < next as usize {
+    if nodes.len() / ast::WIDTH < next as usize {
         return refuse(error::NODES_FULL, 0, 0, nodes, comments);
     }
-    if comments.len() / table::WIDTH < owned as usize {
+    if comments.len() / ast::WIDTH < owned as usize {
         return refuse(error::COMMENTS_FULL, 0, 0, nodes, comments);
     }
-    table::clear(nodes, next as usize * table::WIDTH);
-    table::clear(comments, owned as usize * table::WIDTH);
+    table::clear(nodes, next as usize * ast::WIDTH);
+    table::clear(comments, owned as usize * ast::WIDTH);
     Answer::Accepted {
         nodes: next,
         comments: owned,

@@ -16,6 +16,7 @@ use Rattle.token.specs.declared.Token.{Token}
 use Rattle.lexer.specs.declared.location.Span.{Span}
 use Rattle.lexer.specs.declared.location.LOC.{LOC}
 use Rattle.lexer.specs.Tokens.{Lexeme, lexeme}
+use Rattle.ast.specs.Largest.{bump}
 use Rattle.ast.specs.Tree.{Tree, node, Forest, bare, grown, leaf, single}
 use Rattle.ast.specs.Records.{row, sizes, rowsOf, owned, commentRowsOf}
 use Rattle.ast.proofs.Counts.{row-width, forest-wide, comments-wide, owned-wide, owned-count, append-all, noteCounts, note-counts, rows-sizes}
@@ -27,7 +28,6 @@ use Rattle.steps.specs.Into.{
   stop,
   M,
   after,
-  bump,
   sum,
   put,
   placeOf,

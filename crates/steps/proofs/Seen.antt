@@ -35,7 +35,8 @@ use Rattle.ast.proofs.Counts.{Wide, noteCounts}
 use Rattle.steps.specs.declared.state.State.{State}
 use Rattle.parser.specs.Steps.{kind, bytes, place, St, pos, Res, ok, no, P, bind, test}
 use Rattle.parser.specs.Definitions.{isId}
-use Rattle.steps.specs.Into.{Out, done, stop, M, after, largest, bump, sum, lexerAt, lookAt, aheadOf, advanced, bytesLeft, isIdAt}
+use Rattle.ast.specs.Largest.{bump}
+use Rattle.steps.specs.Into.{Out, done, stop, M, after, sum, lexerAt, lookAt, aheadOf, advanced, bytesLeft, isIdAt}
 use Rattle.steps.proofs.TableLaws.{lay}
 use Rattle.steps.proofs.ForestLaws.{_⊕_}
 use Rattle.steps.proofs.Bytes.{Within, within}
@@ -43,11 +44,11 @@ use Rattle.steps.proofs.Bytes.{Within, within}
 -- ---- numbers that do not pass the largest
 
 pub small-bump : (n : ℕ) → n < 4294967295 → bump n ≡ suc n
-unfolding bump largest
+unfolding bump
 small-bump n h = rw (lt-ltb n 4294967295 h) (omega arith)
 
 pub small-sum : (a b : ℕ) → a + b ≤ 4294967295 → sum a b ≡ a + b
-unfolding sum largest
+unfolding sum
 small-sum a b h = rw (le-leb a (4294967295 - b) (omega arith))
 
 -- ---- the token ahead

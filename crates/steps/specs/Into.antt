@@ -17,6 +17,7 @@ use Rattle.lexer.specs.declared.location.LOC.{LOC}
 use Rattle.lexer.specs.declared.location.Next.{Next}
 use Rattle.lexer.specs.declared.location.Next.the-variants as N
 use Rattle.lexer.specs.Tokens as L
+use Rattle.ast.specs.Largest.{largest, bump}
 use Rattle.ast.specs.Records.{width, row, room}
 use Rattle.parser.specs.Definitions.{isId}
 use Rattle.steps.specs.declared.state.State.{State}
@@ -70,18 +71,11 @@ Keeps m st r u u′ = (t : List ℕ) → done r t u′ ≡ m st t u
 abbrev pub Puts : M → State → State → List ℕ → List ℕ → Type 0
 Puts m st r t t′ = (u : List ℕ) → done r t′ u ≡ m st t u
 
--- ---- numbers that do not pass the largest
+-- ---- records
 
-unfoldable pub largest : ℕ
-largest = 4294967295
-
-unfoldable pub bump : ℕ → ℕ
-bump n = cond (ltb n largest) (n + 1) n
-
+-- a sum that does not pass the largest number
 unfoldable pub sum : ℕ → ℕ → ℕ
 sum a b = cond (leb a (largest - b)) (a + b) largest
-
--- ---- records
 
 -- record i of a table, if it holds that one
 unfoldable pub put : ℕ → List ℕ → List ℕ → List ℕ

@@ -237,7 +237,7 @@ impl State {
             last,
             next: self.next,
             owned: self.owned,
-            waiting: table::bump(self.waiting),
+            waiting: ast::bump(self.waiting),
         }
     }
 
@@ -274,7 +274,7 @@ impl State {
             kind: self.kind,
             loc,
             last,
-            next: table::bump(self.next),
+            next: ast::bump(self.next),
             owned: self.owned,
             waiting: self.waiting,
         }

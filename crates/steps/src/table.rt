@@ -3,26 +3,17 @@ ghost use mathlib.Core.Path.{_≡_};
 ghost use Prim.Native.Nat.{_≤_};
 ghost use lib.ListN.{length};
 ghost use Rattle.ast.specs.Records.{row};
-ghost use Rattle.steps.specs.Into.{bump, sum, put, putParent, wiped};
+ghost use Rattle.steps.specs.Into.{sum, put, putParent, restAt, wiped};
 use lexer::location::LOC;
 
-// The record's width.
-pub const WIDTH: usize = 9;
-
-// One more, and the sum; never past the largest number.
-pub fn bump(n: u32) -> u32
-    ensures { λ r. ⌜ r ≡ bump n ⌝ }
-{
-    if n < 4294967295 { n + 1 } else { n }
-}
-
+// The sum of two counts; never past the largest number.
 pub fn sum(a: u32, b: u32) -> u32
     ensures { λ r. ⌜ r ≡ sum a b ⌝ }
 {
-    if a <= 4294967295 - b {
+    if a <= ast::LARGEST - b {
         a + b
     } else {
-        4294967295
+        ast::LARGEST
     }
 }
 
@@ -30,10 +21,10 @@ pub fn sum(a: u32, b: u32) -> u32
 pub fn put_record(table: &mut [u32], index: usize, kind: u32, parent: u32, flags: u32, loc: LOC)
     ensures { λ _. ⌜ now (table .exit) ≡ put index (row kind parent flags loc) (now (table .entry)) ⌝ }
 {
-    if table.len() / WIDTH <= index {
+    if table.len() / ast::WIDTH <= index {
         return;
     }
-    let at = index * WIDTH;
+    let at = index * ast::WIDTH;
     table[at] = kind;
     table[at + 1] = parent;
     table[at + 2] = flags;
@@ -49,10 +40,18 @@ pub fn put_record(table: &mut [u32], index: usize, kind: u32, parent: u32, flags
 pub fn put_parent(table: &mut [u32], index: usize, parent: u32)
     ensures { λ _. ⌜ now (table .exit) ≡ putParent index parent (now (table .entry)) ⌝ }
 {
-    if table.len() / WIDTH <= index {
+    if table.len() / ast::WIDTH <= index {
         return;
     }
-    table[index * WIDTH + 1] = parent;
+    table[index * ast::WIDTH + 1] = parent;
+}
+
+// Where record `number` starts in a table of so many numbers; the end where it does not stand in it.
+pub fn start_of(len: usize, number: u32) -> usize
+    ensures { λ r. ⌜ (r ≡ restAt len number) × (r ≤ len) ⌝ }
+{
+    let at = number as usize * ast::WIDTH;
+    if at < len { at } else { len }
 }
 
 // A table's numbers become 0 from an index on.

@@ -1,5 +1,5 @@
 -- On the records of definitions, the printer writes them.
---     body-printed         ` {`, the members, `}`, annotations
+--     body-printed         ` {`, the members, `}`, and its annotations behind it
 --     definition-printed   a definition
 --     document-printed     all of them
 use mathlib.Core.Path.{_≡_, refl, sym, _∙_}
@@ -101,7 +101,8 @@ use Rattle.writer.specs.Print.{
   writeDefinition,
 }
 use Rattle.cursor.specs.declared.Cursor.{Cursor}
-use Rattle.cursor.specs.Onto.{W, then, _⨟_, kindAt, passNode, sayOut, commentsOut}
+use Rattle.cursor.specs.Onto.{Reached, W, then, _⨟_, kindAt, passNode, sayOut, commentsOut}
+use Rattle.write_fields.specs.Onto.{annotationsOut}
 use Rattle.write_definitions.specs.Onto.{oneOut, membersFrom, bodyOut, extendsOut, keywordOut, namespaceOut, constOut, lineOut, blockOut, definitionOut, documentFrom, documentOut}
 use Rattle.write_fields.proofs.Ahead.{Rows, under, unders, noted, noteds, Got, got, on, Job, At, kind-is, passes, puts1, puts2, puts3}
 use Rattle.write_fields.proofs.Follow.{Head, none-left, first, Begins, begins, weaker, After, Not, Late, late-forest, late-later, after-forest, after-definition, not-kind, under-long, unders-long, no-note}
@@ -123,6 +124,11 @@ unfolding noParent
 next-after m none-left = none-left
 next-after m (first k q f l e) = rw (e .1) (after-definition m k f l)
 
+-- a step, then two behind it
+on-on : {G H : Cursor → List ℕ → Type 0} (k m : W) {i : Reached} → Got G i → ((p : Cursor) (o : List ℕ) → G p o → Got H (then (k p o) m)) → Got H (then (then i k) m)
+unfolding then
+on-on k m (got {p = p} {o = o} g) h = h p o g
+
 -- a row of this kind
 abbrev OfKind : ℕ → Rows → Type 0
 OfKind i = Begins (λ k q f. k ≡ i)
@@ -130,6 +136,10 @@ OfKind i = Begins (λ k q f. k ≡ i)
 module _ (j : Job) where
   kind-of : {r : List Piece} {n : ℕ} {R C : Rows} {p : Cursor} {o : List ℕ} (i : ℕ) → OfKind i R → At j r n R C p o → eqb (kindAt (j .nodes) (j .count) (p .node)) i ≡ true
   kind-of i (begins k q f l e) a = rw (kind-is j k q f l a) (eq-eqb k i e)
+
+  -- what follows a body
+  abbrev closeOut : ℕ → W
+  closeOut owner = annotationsOut (j .text) (j .nodes) (j .count) owner ⨟ sayOut "\n"
 
   -- ---- members
 
@@ -170,14 +180,14 @@ module _ (j : Job) where
         All G xs → EachAnnotations (Good (j .text)) x → q < 4294967295 → q < n → After q R → Not i R →
         ((ys : List A) (m : ℕ) → N (unders (each f ys (annotationsTree x bare)) q m R)) → Late (n + sizes (each f xs (annotationsTree x bare))) C →
         At j (writeBody write xs x r) n (unders (each f xs (annotationsTree x bare)) q n R) (noteds (each f xs (annotationsTree x bare)) n C) p o →
-        Got (At j r (n + sizes (each f xs (annotationsTree x bare))) R C) (bodyOut (j .text) (j .nodes) (j .count) (j .comments) (j .total) ind q i p o)
+        Got (At j r (n + sizes (each f xs (annotationsTree x bare))) R C) (then (bodyOut (j .text) (j .nodes) (j .count) (j .comments) (j .total) ind i p o) (closeOut q))
     unfolding bodyOut writeBody sayOut ascii bytesOf
     body-printed xs x q n r R C p o gs gx few l after stop ok late a =
         let es = each-sizes f xs (annotationsTree x bare) in
         let m = n + sizes (each f xs bare) in
         let e : m + sizes (annotationsTree x bare) ≡ n + sizes (each f xs (annotationsTree x bare)) = omega (arith, es) in
-        on (puts3 j _ (λ r. refl) a) λ p o a.
-        on (members-from (j .count) xs x q n _ R C p o (omega (arith, a .nodes-ahead .counts, unders-long (each f xs (annotationsTree x bare)) q n R, es)) gs l after stop ok late a) λ p o a.
+        on-on _ _ (puts3 j _ (λ r. refl) a) λ p o a.
+        on-on _ _ (members-from (j .count) xs x q n _ R C p o (omega (arith, a .nodes-ahead .counts, unders-long (each f xs (annotationsTree x bare)) q n R, es)) gs l after stop ok late a) λ p o a.
         on (puts1 j _ (λ r. refl) a) λ p o a.
         on (annotations-printed j x q m _ R C p o gx few (omega (arith, l)) after a) λ p o a.
         rw (sym e) (puts1 j _ (λ r. refl) a)
@@ -208,7 +218,7 @@ module _ (j : Job) where
     fields-printed : (xs : List Field) → All (EachField (Good (j .text))) xs → Late (n + sizes (each (fieldTree 0) xs (annotationsTree x bare))) C →
         At j (writeBody (writeField (replicate ind 32)) xs x r) n (unders (each (fieldTree 0) xs (annotationsTree x bare)) q n R)
         (noteds (each (fieldTree 0) xs (annotationsTree x bare)) n C) p o →
-        Got (At j r (n + sizes (each (fieldTree 0) xs (annotationsTree x bare))) R C) (bodyOut (j .text) (j .nodes) (j .count) (j .comments) (j .total) ind q 12 p o)
+        Got (At j r (n + sizes (each (fieldTree 0) xs (annotationsTree x bare))) R C) (then (bodyOut (j .text) (j .nodes) (j .count) (j .comments) (j .total) ind 12 p o) (closeOut q))
     unfolding oneOut
     fields-printed xs gs late a =
         body-printed ind 12 (fieldTree 0) (writeField (replicate ind 32)) (EachField (Good (j .text))) (λ R. Unit {0}) (omega arith) (λ l q R. first 14 q 0 l refl)
@@ -218,7 +228,7 @@ module _ (j : Job) where
     enum-members-printed : (xs : List EnumMember) → All (EachMember (Good (j .text))) xs → Late (n + sizes (each memberTree xs (annotationsTree x bare))) C →
         At j (writeBody (writeMember (replicate ind 32)) xs x r) n (unders (each memberTree xs (annotationsTree x bare)) q n R)
         (noteds (each memberTree xs (annotationsTree x bare)) n C) p o →
-        Got (At j r (n + sizes (each memberTree xs (annotationsTree x bare))) R C) (bodyOut (j .text) (j .nodes) (j .count) (j .comments) (j .total) ind q 13 p o)
+        Got (At j r (n + sizes (each memberTree xs (annotationsTree x bare))) R C) (then (bodyOut (j .text) (j .nodes) (j .count) (j .comments) (j .total) ind 13 p o) (closeOut q))
     unfolding oneOut
     enum-members-printed xs gs late a =
         body-printed ind 13 memberTree (writeMember (replicate ind 32)) (EachMember (Good (j .text))) (λ R. Unit {0}) (omega arith) (λ l q R. first 14 q 0 l refl)
@@ -228,7 +238,7 @@ module _ (j : Job) where
     functions-printed : (xs : List Function) → All (EachFunction (Good (j .text))) xs → Late (n + sizes (each functionTree xs (annotationsTree x bare))) C →
         At j (writeBody (writeFunction (replicate ind 32)) xs x r) n (unders (each functionTree xs (annotationsTree x bare)) q n R)
         (noteds (each functionTree xs (annotationsTree x bare)) n C) p o →
-        Got (At j r (n + sizes (each functionTree xs (annotationsTree x bare))) R C) (bodyOut (j .text) (j .nodes) (j .count) (j .comments) (j .total) ind q 11 p o)
+        Got (At j r (n + sizes (each functionTree xs (annotationsTree x bare))) R C) (then (bodyOut (j .text) (j .nodes) (j .count) (j .comments) (j .total) ind 11 p o) (closeOut q))
     unfolding oneOut
     functions-printed xs gs late a =
         body-printed ind 11 functionTree (writeFunction (replicate ind 32)) (EachFunction (Good (j .text))) (Not 12) (omega arith) (λ l q R. first 14 q 0 l refl)
@@ -277,7 +287,7 @@ module _ (j : Job) where
         (then (commentsOut (j .text) (j .comments) (j .total) owner 0 p o)
         (passNode
         ⨟ (keywordOut k ⨟ λ q o. cond (ltb k 6) (lineOut (j .text) (j .nodes) (j .count) k q o)
-        (blockOut (j .text) (j .nodes) (j .count) (j .comments) (j .total) ind owner k q o))))
+        (then (blockOut (j .text) (j .nodes) (j .count) (j .comments) (j .total) ind k q o) (closeOut owner)))))
     unfolding kindOf structureKind definitionTree writeDefinition structureKeyword keyword keywordOut lineOut blockOut namespaceOut constOut size sizes single both unders noteds sayOut ascii bytesOf
     definition-by k owner (Include l c m) q n r R C p o ek eo (einclude gc gm) next late few a =
         let e : suc n + size (nameTree m) ≡ n + suc (size (nameTree m) + 0) = omega arith in
@@ -314,7 +324,7 @@ module _ (j : Job) where
         let e : i + sizes us ≡ n + suc (size (nameTree m) + sizes us) = omega arith in
         rw (ek, eo)
         (start _ 6 q n l c (grown (nameTree m) us) _ (own m ∷ writeBody (writeMember (replicate ind 32)) xs x r) R C p o gc late (λ R C p o a. puts2 j _ (λ r. refl) a) a λ p o a.
-        on (name-printed j m n (suc n) _ _ _ p o gm a) λ p o a.
+        on-on _ _ (name-printed j m n (suc n) _ _ _ p o gm a) λ p o a.
         rw (sym e) (enum-members-printed ind x n i r R C p o gx few (omega arith) next xs gs (late-later (i + sizes us) (n + suc (size (nameTree m) + sizes us)) (omega arith) late) a))
     definition-by k owner (structure Struct l c m xs x) q n r R C p o ek eo (estructure gc gm gs gx) next late few a =
         let us = each (fieldTree 0) xs (annotationsTree x bare) in
@@ -322,7 +332,7 @@ module _ (j : Job) where
         let e : i + sizes us ≡ n + suc (size (nameTree m) + sizes us) = omega arith in
         rw (ek, eo)
         (start _ 7 q n l c (grown (nameTree m) us) _ (own m ∷ writeBody (writeField (replicate ind 32)) xs x r) R C p o gc late (λ R C p o a. puts2 j _ (λ r. refl) a) a λ p o a.
-        on (name-printed j m n (suc n) _ _ _ p o gm a) λ p o a.
+        on-on _ _ (name-printed j m n (suc n) _ _ _ p o gm a) λ p o a.
         rw (sym e) (fields-printed ind x n i r R C p o gx few (omega arith) next xs gs (late-later (i + sizes us) (n + suc (size (nameTree m) + sizes us)) (omega arith) late) a))
     definition-by k owner (structure Union l c m xs x) q n r R C p o ek eo (estructure gc gm gs gx) next late few a =
         let us = each (fieldTree 0) xs (annotationsTree x bare) in
@@ -330,7 +340,7 @@ module _ (j : Job) where
         let e : i + sizes us ≡ n + suc (size (nameTree m) + sizes us) = omega arith in
         rw (ek, eo)
         (start _ 8 q n l c (grown (nameTree m) us) _ (own m ∷ writeBody (writeField (replicate ind 32)) xs x r) R C p o gc late (λ R C p o a. puts2 j _ (λ r. refl) a) a λ p o a.
-        on (name-printed j m n (suc n) _ _ _ p o gm a) λ p o a.
+        on-on _ _ (name-printed j m n (suc n) _ _ _ p o gm a) λ p o a.
         rw (sym e) (fields-printed ind x n i r R C p o gx few (omega arith) next xs gs (late-later (i + sizes us) (n + suc (size (nameTree m) + sizes us)) (omega arith) late) a))
     definition-by k owner (structure Exception l c m xs x) q n r R C p o ek eo (estructure gc gm gs gx) next late few a =
         let us = each (fieldTree 0) xs (annotationsTree x bare) in
@@ -338,7 +348,7 @@ module _ (j : Job) where
         let e : i + sizes us ≡ n + suc (size (nameTree m) + sizes us) = omega arith in
         rw (ek, eo)
         (start _ 9 q n l c (grown (nameTree m) us) _ (own m ∷ writeBody (writeField (replicate ind 32)) xs x r) R C p o gc late (λ R C p o a. puts2 j _ (λ r. refl) a) a λ p o a.
-        on (name-printed j m n (suc n) _ _ _ p o gm a) λ p o a.
+        on-on _ _ (name-printed j m n (suc n) _ _ _ p o gm a) λ p o a.
         rw (sym e) (fields-printed ind x n i r R C p o gx few (omega arith) next xs gs (late-later (i + sizes us) (n + suc (size (nameTree m) + sizes us)) (omega arith) late) a))
     definition-by k owner (Service l c m y xs x) q n r R C p o ek eo (eservice gc gm gy gs gx) next late few a =
         let us = each functionTree xs (annotationsTree x bare) in
@@ -350,8 +360,8 @@ module _ (j : Job) where
         rw (ek, eo)
         (start _ 10 q n l c (grown (nameTree m) (perhaps nameTree y us)) _ (own m ∷ writeExtends y (writeBody (writeFunction (replicate ind 32)) xs x r)) R C p o gc late
         (λ R C p o a. puts2 j _ (λ r. refl) a) a λ p o a.
-        on (name-printed j m n (suc n) _ _ _ p o gm a) λ p o a.
-        on (extends-printed y us n i _ R C p o gy (λ h. functions-not 16 xs x n h R refl refl (next-not 16 (omega arith) next)) a) λ p o a.
+        on-on _ _ (name-printed j m n (suc n) _ _ _ p o gm a) λ p o a.
+        on-on _ _ (extends-printed y us n i _ R C p o gy (λ h. functions-not 16 xs x n h R refl refl (next-not 16 (omega arith) next)) a) λ p o a.
         rw (sym e) (functions-printed ind x n i₁ r R C p o gx few (omega (arith, later)) next xs gs (late-later (i₁ + sizes us) all (omega (arith, e)) late) a))
 
     kind-first : (d : Definition) (q n : ℕ) (R : Rows) → Begins (λ k p f. (k ≡ kindOf d) × (p ≡ q)) (under (definitionTree d) q n R)

@@ -69,12 +69,11 @@ pub one-is : (text nodes : List ℕ) (count : ℕ) (comments : List ℕ) (total 
 unfolding oneOut
 one-is text nodes count comments total indent k p o = refl
 
-pub body-is : (text nodes : List ℕ) (count : ℕ) (comments : List ℕ) (total indent owner k : ℕ) (p : Cursor) (o : List ℕ) →
-    bodyOut text nodes count comments total indent owner k p o ≡
-    then (putOut (32 ∷ 123 ∷ 10 ∷ []) p o)
-    (membersFrom text nodes count comments total indent k count ⨟ (putOut (125 ∷ []) ⨟ (annotationsOut text nodes count owner ⨟ putOut (10 ∷ []))))
+pub body-is : (text nodes : List ℕ) (count : ℕ) (comments : List ℕ) (total indent k : ℕ) (p : Cursor) (o : List ℕ) →
+    bodyOut text nodes count comments total indent k p o ≡
+    then (putOut (32 ∷ 123 ∷ 10 ∷ []) p o) (membersFrom text nodes count comments total indent k count ⨟ putOut (125 ∷ []))
 unfolding bodyOut sayOut ascii
-body-is text nodes count comments total indent owner k p o = refl
+body-is text nodes count comments total indent k p o = refl
 
 pub extends-is : (text nodes : List ℕ) (count : ℕ) (p : Cursor) (o : List ℕ) → extendsOut text nodes count p o ≡
     cond (eqb (kindAt nodes count (p .node)) 16)
@@ -115,14 +114,14 @@ pub line-is : (text nodes : List ℕ) (count k : ℕ) (p : Cursor) (o : List ℕ
 unfolding lineOut sayOut ascii
 line-is text nodes count k p o = refl
 
-pub block-is : (text nodes : List ℕ) (count : ℕ) (comments : List ℕ) (total indent owner k : ℕ) (p : Cursor) (o : List ℕ) →
-    blockOut text nodes count comments total indent owner k p o ≡
+pub block-is : (text nodes : List ℕ) (count : ℕ) (comments : List ℕ) (total indent k : ℕ) (p : Cursor) (o : List ℕ) →
+    blockOut text nodes count comments total indent k p o ≡
     then (tokenOut text nodes p o)
-    (λ p o. cond (eqb k 6) (bodyOut text nodes count comments total indent owner 13 p o)
-    (cond (eqb k 10) (then (extendsOut text nodes count p o) (bodyOut text nodes count comments total indent owner 11))
-    (bodyOut text nodes count comments total indent owner 12 p o)))
+    (λ p o. cond (eqb k 6) (bodyOut text nodes count comments total indent 13 p o)
+    (cond (eqb k 10) (then (extendsOut text nodes count p o) (bodyOut text nodes count comments total indent 11))
+    (bodyOut text nodes count comments total indent 12 p o)))
 unfolding blockOut
-block-is text nodes count comments total indent owner k p o = refl
+block-is text nodes count comments total indent k p o = refl
 
 -- by the kind of the node ahead
 abbrev pub definitionBy : List ℕ → List ℕ → ℕ → List ℕ → ℕ → ℕ → ℕ → W
@@ -130,10 +129,11 @@ definitionBy text nodes count comments total indent k p o =
     then (commentsOut text comments total (p .node) 0 p o)
     (passNode
     ⨟ (keywordOut k
-    ⨟ λ q o. cond (ltb k 6) (lineOut text nodes count k q o) (blockOut text nodes count comments total indent (p .node) k q o)))
+    ⨟ λ q o. cond (ltb k 6) (lineOut text nodes count k q o)
+    (then (blockOut text nodes count comments total indent k q o) (annotationsOut text nodes count (p .node) ⨟ putOut (10 ∷ [])))))
 
 pub definition-is : (text nodes : List ℕ) (count : ℕ) (comments : List ℕ) (total indent : ℕ) (p : Cursor) (o : List ℕ) {k : ℕ} →
     k ≡ kindAt nodes count (p .node) → definitionOut text nodes count comments total indent p o ≡
     definitionBy text nodes count comments total indent k p o
-unfolding definitionOut
+unfolding definitionOut sayOut ascii
 definition-is text nodes count comments total indent p o h = ap (λ (x : ℕ). definitionBy text nodes count comments total indent x p o) (sym h)

@@ -55,10 +55,8 @@ membersFrom text nodes count comments total indent k (suc n) p o =
     ((oneOut text nodes count comments total indent k ⨟ membersFrom text nodes count comments total indent k n) p o)
     (reached p o)
 
-unfoldable pub bodyOut : List ℕ → List ℕ → ℕ → List ℕ → ℕ → ℕ → ℕ → ℕ → W
-bodyOut text nodes count comments total indent owner k =
-    sayOut " {\n"
-    ⨟ (membersFrom text nodes count comments total indent k count ⨟ (sayOut "}" ⨟ (annotationsOut text nodes count owner ⨟ sayOut "\n")))
+unfoldable pub bodyOut : List ℕ → List ℕ → ℕ → List ℕ → ℕ → ℕ → ℕ → W
+bodyOut text nodes count comments total indent k = sayOut " {\n" ⨟ (membersFrom text nodes count comments total indent k count ⨟ sayOut "}")
 
 unfoldable pub extendsOut : List ℕ → List ℕ → ℕ → W
 extendsOut text nodes count p o = cond (eqb (kindAt nodes count (p .node)) K.Name) ((sayOut " extends " ⨟ tokenOut text nodes) p o) (reached p o)
@@ -89,19 +87,22 @@ lineOut text nodes count k p o =
     (cond (eqb k K.Const) (constOut text nodes count p o)
     ((typedNameOut text nodes count ⨟ sayOut "\n") p o)))
 
--- a definition with a body, behind its keyword
-unfoldable pub blockOut : List ℕ → List ℕ → ℕ → List ℕ → ℕ → ℕ → ℕ → ℕ → W
-blockOut text nodes count comments total indent owner k p o =
+-- a definition with a body, between its keyword and its annotations
+unfoldable pub blockOut : List ℕ → List ℕ → ℕ → List ℕ → ℕ → ℕ → ℕ → W
+blockOut text nodes count comments total indent k p o =
     then (tokenOut text nodes p o)
-    (λ p o. cond (eqb k K.Enum) (bodyOut text nodes count comments total indent owner K.EnumMember p o)
-    (cond (eqb k K.Service) ((extendsOut text nodes count ⨟ bodyOut text nodes count comments total indent owner K.Function) p o)
-    (bodyOut text nodes count comments total indent owner K.Field p o)))
+    (λ p o. cond (eqb k K.Enum) (bodyOut text nodes count comments total indent K.EnumMember p o)
+    (cond (eqb k K.Service) ((extendsOut text nodes count ⨟ bodyOut text nodes count comments total indent K.Function) p o)
+    (bodyOut text nodes count comments total indent K.Field p o)))
 
 unfoldable pub definitionOut : List ℕ → List ℕ → ℕ → List ℕ → ℕ → ℕ → W
 definitionOut text nodes count comments total indent p o =
     let k = kindAt nodes count (p .node) in
     then (commentsOut text comments total (p .node) 0 p o)
-    (passNode ⨟ (keywordOut k ⨟ λ q o. cond (ltb k K.Enum) (lineOut text nodes count k q o) (blockOut text nodes count comments total indent (p .node) k q o)))
+    (passNode
+    ⨟ (keywordOut k
+    ⨟ λ q o. cond (ltb k K.Enum) (lineOut text nodes count k q o)
+    ((blockOut text nodes count comments total indent k ⨟ (annotationsOut text nodes count (p .node) ⨟ sayOut "\n")) q o)))
 
 unfoldable pub documentFrom : List ℕ → List ℕ → ℕ → List ℕ → ℕ → ℕ → ℕ → W
 documentFrom text nodes count comments total indent zero p o = reached p o

@@ -1,6 +1,8 @@
 // The print of functions, enum members and definitions: rico's writer/document.rs.
+ghost use Rattle.ast.specs.Records.{room};
 ghost use Rattle.cursor.specs.Onto.{Writes};
 ghost use Rattle.write_definitions.specs.Onto.{throwsOut, onewayOut, functionTailOut, functionOut, memberOut, oneOut, membersFrom, bodyOut, extendsOut, keywordOut, namespaceOut, constOut, lineOut, blockOut, definitionOut, documentOut};
+use ast::WIDTH;
 use ast::flag;
 use cursor::Cursor;
 
@@ -10,20 +12,18 @@ const ONEWAY_THROWS: u32 = flag::ONEWAY + flag::THROWS;
 fn write_throws(
     text: &[u8],
     nodes: &[u32],
-    count: u32,
     comments: &[u32],
-    total: u32,
     out: &mut [u8],
     at: Cursor,
     flags: u32,
 ) -> Cursor
-    ensures { λ r. ⌜ Writes (throwsOut (now (text .entry)) (now (nodes .entry)) count (now (comments .entry)) total flags) at r (now (out .entry)) (now (out .exit)) ⌝ }
+    ensures { λ r. ⌜ Writes (throwsOut (now (text .entry)) (now (nodes .entry)) (room (now (nodes .entry))) (now (comments .entry)) (room (now (comments .entry))) flags) at r (now (out .entry)) (now (out .exit)) ⌝ }
 {
     if flags < flag::THROWS {
         return at;
     }
     let opened = cursor::put(out, at, b" throws (");
-    let inner = write_fields::write_params(text, nodes, count, comments, total, out, opened, true);
+    let inner = write_fields::write_params(text, nodes, comments, out, opened, true);
     cursor::put(out, inner, b")")
 }
 
@@ -43,30 +43,19 @@ fn write_oneway(out: &mut [u8], at: Cursor, flags: u32) -> Cursor
 fn write_function_tail(
     text: &[u8],
     nodes: &[u32],
-    count: u32,
     comments: &[u32],
-    total: u32,
     out: &mut [u8],
     at: Cursor,
     owner: u32,
     flags: u32,
 ) -> Cursor
-    ensures { λ r. ⌜ Writes (functionTailOut (now (text .entry)) (now (nodes .entry)) count (now (comments .entry)) total owner flags) at r (now (out .entry)) (now (out .exit)) ⌝ }
+    ensures { λ r. ⌜ Writes (functionTailOut (now (text .entry)) (now (nodes .entry)) (room (now (nodes .entry))) (now (comments .entry)) (room (now (comments .entry))) owner flags) at r (now (out .entry)) (now (out .exit)) ⌝ }
 {
     let opened = cursor::put(out, at, b"(");
-    let params = write_fields::write_params(
-        text,
-        nodes,
-        count,
-        comments,
-        total,
-        out,
-        opened,
-        false,
-    );
+    let params = write_fields::write_params(text, nodes, comments, out, opened, false);
     let closed = cursor::put(out, params, b")");
-    let thrown = write_throws(text, nodes, count, comments, total, out, closed, flags);
-    let annotated = write_fields::write_annotations(text, nodes, count, out, thrown, owner);
+    let thrown = write_throws(text, nodes, comments, out, closed, flags);
+    let annotated = write_fields::write_annotations(text, nodes, out, thrown, owner);
     cursor::put(out, annotated, b"\n")
 }
 
@@ -74,51 +63,40 @@ fn write_function_tail(
 fn write_function(
     text: &[u8],
     nodes: &[u32],
-    count: u32,
     comments: &[u32],
-    total: u32,
     out: &mut [u8],
     at: Cursor,
     indent: u32,
 ) -> Cursor
-    ensures { λ r. ⌜ Writes (functionOut (now (text .entry)) (now (nodes .entry)) count (now (comments .entry)) total indent) at r (now (out .entry)) (now (out .exit)) ⌝ }
+    ensures { λ r. ⌜ Writes (functionOut (now (text .entry)) (now (nodes .entry)) (room (now (nodes .entry))) (now (comments .entry)) (room (now (comments .entry))) indent) at r (now (out .entry)) (now (out .exit)) ⌝ }
 {
-    let noted = cursor::put_comments(text, comments, total, out, at, at.node, indent);
+    let noted = cursor::put_comments(text, comments, out, at, indent);
     let spaced = cursor::put_spaces(out, noted, indent);
     let flags = cursor::number_at(nodes, at.node, 2);
     let oneway = write_oneway(out, cursor::pass_node(spaced), flags);
-    let named = write_fields::write_typed_name(text, nodes, count, out, oneway);
-    write_function_tail(
-        text,
-        nodes,
-        count,
-        comments,
-        total,
-        out,
-        named,
-        at.node,
-        flags,
-    )
+    let named = write_fields::write_typed_name(text, nodes, out, oneway);
+    write_function_tail(text, nodes, comments, out, named, at.node, flags)
 }
 
 // the members of write_enum
 fn write_member(
     text: &[u8],
     nodes: &[u32],
-    count: u32,
     comments: &[u32],
-    total: u32,
     out: &mut [u8],
     at: Cursor,
     indent: u32,
 ) -> Cursor
-    ensures { λ r. ⌜ Writes (memberOut (now (text .entry)) (now (nodes .entry)) count (now (comments .entry)) total indent) at r (now (out .entry)) (now (out .exit)) ⌝ }
+    ensures { λ r. ⌜ Writes (memberOut (now (text .entry)) (now (nodes .entry)) (room (now (nodes .entry))) (now (comments .entry)) (room (now (comments .entry))) indent) at r (now (out .entry)) (now (out .exit)) ⌝ }
 {
-    let noted = cursor::put_comments(text, comments, total, out, at, at.node, indent);
+    let noted = cursor::put_comments(text, comments, out, at, indent);
     let spaced = cursor::put_spaces(out, noted, indent);
     let named = cursor::put_token(text, nodes, out, cursor::pass_node(spaced));
-    let value = write_fields::write_initializer(text, nodes, count, out, named, at.node);
-    let annotated = write_fields::write_annotations(text, nodes, count, out, value, at.node);
+    let value = write_fields::write_initializer(text, nodes, out, named, at.node);
+    if cursor::parent_at(nodes, value.node) != at.node {
+        return cursor::put(out, value, b",\n"); // no annotations
+    }
+    let annotated = write_fields::write_annotations(text, nodes, out, value, at.node);
     cursor::put(out, annotated, b",\n")
 }
 
@@ -126,86 +104,67 @@ fn write_member(
 fn write_one(
     text: &[u8],
     nodes: &[u32],
-    count: u32,
     comments: &[u32],
-    total: u32,
     out: &mut [u8],
     at: Cursor,
     indent: u32,
     kind: u32,
 ) -> Cursor
-    ensures { λ r. ⌜ Writes (oneOut (now (text .entry)) (now (nodes .entry)) count (now (comments .entry)) total indent kind) at r (now (out .entry)) (now (out .exit)) ⌝ }
+    ensures { λ r. ⌜ Writes (oneOut (now (text .entry)) (now (nodes .entry)) (room (now (nodes .entry))) (now (comments .entry)) (room (now (comments .entry))) indent kind) at r (now (out .entry)) (now (out .exit)) ⌝ }
 {
     if kind == ast::kind::FUNCTION {
-        return write_function(text, nodes, count, comments, total, out, at, indent);
+        return write_function(text, nodes, comments, out, at, indent);
     }
     if kind == ast::kind::FIELD {
-        return write_fields::write_field(text, nodes, count, comments, total, out, at, indent);
+        return write_fields::write_field(text, nodes, comments, out, at, indent);
     }
-    write_member(text, nodes, count, comments, total, out, at, indent)
+    write_member(text, nodes, comments, out, at, indent)
 }
 
 fn write_members(
     text: &[u8],
     nodes: &[u32],
-    count: u32,
     comments: &[u32],
-    total: u32,
     out: &mut [u8],
     at: Cursor,
     indent: u32,
     kind: u32,
 ) -> Cursor
-    ensures { λ r. ⌜ Writes (membersFrom (now (text .entry)) (now (nodes .entry)) count (now (comments .entry)) total indent kind count) at r (now (out .entry)) (now (out .exit)) ⌝ }
+    ensures { λ r. ⌜ Writes (membersFrom (now (text .entry)) (now (nodes .entry)) (room (now (nodes .entry))) (now (comments .entry)) (room (now (comments .entry))) indent kind (room (now (nodes .entry)))) at r (now (out .entry)) (now (out .exit)) ⌝ }
 {
     let mut now = at;
-    let mut left = count;
+    let mut left = nodes.len() / WIDTH;
     while 0 < left {
-        if cursor::kind_at(nodes, count, now.node) != kind {
+        if cursor::kind_at(nodes, now.node) != kind {
             return now;
         }
-        now = write_one(text, nodes, count, comments, total, out, now, indent, kind);
+        now = write_one(text, nodes, comments, out, now, indent, kind);
         left -= 1;
     }
     now
 }
 
-// ` {`, the members each on its lines, `}`, annotations
+// ` {`, the members each on its lines, `}`
 fn write_body(
     text: &[u8],
     nodes: &[u32],
-    count: u32,
     comments: &[u32],
-    total: u32,
     out: &mut [u8],
     at: Cursor,
     indent: u32,
-    owner: u32,
     kind: u32,
 ) -> Cursor
-    ensures { λ r. ⌜ Writes (bodyOut (now (text .entry)) (now (nodes .entry)) count (now (comments .entry)) total indent owner kind) at r (now (out .entry)) (now (out .exit)) ⌝ }
+    ensures { λ r. ⌜ Writes (bodyOut (now (text .entry)) (now (nodes .entry)) (room (now (nodes .entry))) (now (comments .entry)) (room (now (comments .entry))) indent kind) at r (now (out .entry)) (now (out .exit)) ⌝ }
 {
     let opened = cursor::put(out, at, b" {\n");
-    let members = write_members(
-        text,
-        nodes,
-        count,
-        comments,
-        total,
-        out,
-        opened,
-        indent,
-        kind,
-    );
-    let closed = cursor::put(out, members, b"}");
-    let annotated = write_fields::write_annotations(text, nodes, count, out, closed, owner);
-    cursor::put(out, annotated, b"\n")
+    let members = write_members(text, nodes, comments, out, opened, indent, kind);
+    cursor::put(out, members, b"}")
 }
 
-fn write_extends(text: &[u8], nodes: &[u32], count: u32, out: &mut [u8], at: Cursor) -> Cursor
-    ensures { λ r. ⌜ Writes (extendsOut (now (text .entry)) (now (nodes .entry)) count) at r (now (out .entry)) (now (out .exit)) ⌝ }
+fn write_extends(text: &[u8], nodes: &[u32], out: &mut [u8], at: Cursor) -> Cursor
+    ensures { λ r. ⌜ Writes (extendsOut (now (text .entry)) (now (nodes .entry)) (room (now (nodes .entry)))) at r (now (out .entry)) (now (out .exit)) ⌝ }
 {
-    if cursor::kind_at(nodes, count, at.node) != ast::kind::NAME {
+    if cursor::kind_at(nodes, at.node) != ast::kind::NAME {
         return at;
     }
     let extends = cursor::put(out, at, b" extends ");
@@ -256,25 +215,18 @@ fn write_namespace(text: &[u8], nodes: &[u32], out: &mut [u8], at: Cursor) -> Cu
 }
 
 // const, behind its keyword
-fn write_const(text: &[u8], nodes: &[u32], count: u32, out: &mut [u8], at: Cursor) -> Cursor
-    ensures { λ r. ⌜ Writes (constOut (now (text .entry)) (now (nodes .entry)) count) at r (now (out .entry)) (now (out .exit)) ⌝ }
+fn write_const(text: &[u8], nodes: &[u32], out: &mut [u8], at: Cursor) -> Cursor
+    ensures { λ r. ⌜ Writes (constOut (now (text .entry)) (now (nodes .entry)) (room (now (nodes .entry)))) at r (now (out .entry)) (now (out .exit)) ⌝ }
 {
-    let named = write_fields::write_typed_name(text, nodes, count, out, at);
+    let named = write_fields::write_typed_name(text, nodes, out, at);
     let equals = cursor::put(out, named, b" = ");
-    let value = write_fields::write_value(text, nodes, count, out, equals, parser::NESTING);
+    let value = write_fields::write_value(text, nodes, out, equals, parser::NESTING);
     cursor::put(out, value, b"\n")
 }
 
 // a definition of one line, behind its keyword
-fn write_line(
-    text: &[u8],
-    nodes: &[u32],
-    count: u32,
-    out: &mut [u8],
-    at: Cursor,
-    kind: u32,
-) -> Cursor
-    ensures { λ r. ⌜ Writes (lineOut (now (text .entry)) (now (nodes .entry)) count kind) at r (now (out .entry)) (now (out .exit)) ⌝ }
+fn write_line(text: &[u8], nodes: &[u32], out: &mut [u8], at: Cursor, kind: u32) -> Cursor
+    ensures { λ r. ⌜ Writes (lineOut (now (text .entry)) (now (nodes .entry)) (room (now (nodes .entry))) kind) at r (now (out .entry)) (now (out .exit)) ⌝ }
 {
     if kind < ast::kind::NAMESPACE {
         let named = cursor::put_token(text, nodes, out, at);
@@ -284,124 +236,91 @@ fn write_line(
         return write_namespace(text, nodes, out, at);
     }
     if kind == ast::kind::CONST {
-        return write_const(text, nodes, count, out, at);
+        return write_const(text, nodes, out, at);
     }
-    let typed = write_fields::write_typed_name(text, nodes, count, out, at);
+    let typed = write_fields::write_typed_name(text, nodes, out, at);
     cursor::put(out, typed, b"\n")
 }
 
-// a definition with a body, behind its keyword
+// a definition with a body, between its keyword and its annotations
 fn write_block(
     text: &[u8],
     nodes: &[u32],
-    count: u32,
     comments: &[u32],
-    total: u32,
     out: &mut [u8],
     at: Cursor,
     indent: u32,
-    owner: u32,
     kind: u32,
 ) -> Cursor
-    ensures { λ r. ⌜ Writes (blockOut (now (text .entry)) (now (nodes .entry)) count (now (comments .entry)) total indent owner kind) at r (now (out .entry)) (now (out .exit)) ⌝ }
+    ensures { λ r. ⌜ Writes (blockOut (now (text .entry)) (now (nodes .entry)) (room (now (nodes .entry))) (now (comments .entry)) (room (now (comments .entry))) indent kind) at r (now (out .entry)) (now (out .exit)) ⌝ }
 {
     let named = cursor::put_token(text, nodes, out, at);
     if kind == ast::kind::ENUM {
         return write_body(
             text,
             nodes,
-            count,
             comments,
-            total,
             out,
             named,
             indent,
-            owner,
             ast::kind::ENUM_MEMBER,
         );
     }
     if kind == ast::kind::SERVICE {
-        let extended = write_extends(text, nodes, count, out, named);
+        let extended = write_extends(text, nodes, out, named);
         return write_body(
             text,
             nodes,
-            count,
             comments,
-            total,
             out,
             extended,
             indent,
-            owner,
             ast::kind::FUNCTION,
         );
     }
-    write_body(
-        text,
-        nodes,
-        count,
-        comments,
-        total,
-        out,
-        named,
-        indent,
-        owner,
-        ast::kind::FIELD,
-    )
+    write_body(text, nodes, comments, out, named, indent, ast::kind::FIELD)
 }
 
 // a definition
 fn write_definition(
     text: &[u8],
     nodes: &[u32],
-    count: u32,
     comments: &[u32],
-    total: u32,
     out: &mut [u8],
     at: Cursor,
     indent: u32,
 ) -> Cursor
-    ensures { λ r. ⌜ Writes (definitionOut (now (text .entry)) (now (nodes .entry)) count (now (comments .entry)) total indent) at r (now (out .entry)) (now (out .exit)) ⌝ }
+    ensures { λ r. ⌜ Writes (definitionOut (now (text .entry)) (now (nodes .entry)) (room (now (nodes .entry))) (now (comments .entry)) (room (now (comments .entry))) indent) at r (now (out .entry)) (now (out .exit)) ⌝ }
 {
-    let kind = cursor::kind_at(nodes, count, at.node);
-    let noted = cursor::put_comments(text, comments, total, out, at, at.node, 0);
+    let kind = cursor::kind_at(nodes, at.node);
+    let noted = cursor::put_comments(text, comments, out, at, 0);
     let word = put_keyword(out, cursor::pass_node(noted), kind);
     if kind < ast::kind::ENUM {
-        return write_line(text, nodes, count, out, word, kind);
+        return write_line(text, nodes, out, word, kind);
     }
-    write_block(
-        text,
-        nodes,
-        count,
-        comments,
-        total,
-        out,
-        word,
-        indent,
-        at.node,
-        kind,
-    )
+    let block = write_block(text, nodes, comments, out, word, indent, kind);
+    let annotated = write_fields::write_annotations(text, nodes, out, block, at.node);
+    cursor::put(out, annotated, b"\n")
 }
 
 // all definitions
 pub fn write_document(
     text: &[u8],
     nodes: &[u32],
-    count: u32,
     comments: &[u32],
-    total: u32,
     out: &mut [u8],
     at: Cursor,
     indent: u32,
 ) -> Cursor
-    ensures { λ r. ⌜ Writes (documentOut (now (text .entry)) (now (nodes .entry)) count (now (comments .entry)) total indent) at r (now (out .entry)) (now (out .exit)) ⌝ }
+    ensures { λ r. ⌜ Writes (documentOut (now (text .entry)) (now (nodes .entry)) (room (now (nodes .entry))) (now (comments .entry)) (room (now (comments .entry))) indent) at r (now (out .entry)) (now (out .exit)) ⌝ }
 {
     let mut now = at;
-    let mut left = count;
+    let mut left = nodes.len() / WIDTH;
     while 0 < left {
-        if count <= now.node {
+        if nodes.len() / WIDTH <= now.node as usize {
             return now;
         }
-        now = write_definition(text, nodes, count, comments, total, out, now, indent);
+        now = write_definition(text, nodes, comments, out, now, indent);
         left -= 1;
     }
     now

@@ -17,12 +17,13 @@ use borrow.Author.Tests.{leb-true, leb-false, lt-leb, lt-ltb, le-ltb}
 use Rattle.lexer.specs.declared.location.LOC.{LOC}
 use Rattle.lexer.specs.Tokens.{Lexeme, lexeme}
 use Rattle.ast.specs.Tree.{Tree, node, Forest, bare, grown}
+use Rattle.ast.specs.Largest.{bump}
 use Rattle.ast.specs.Records.{width, noParent, row, size, commentRow, concat}
 use Rattle.parser.specs.Steps.{bytes, place}
 use Rattle.parser.proofs.Lexemes.{Stands}
 use Rattle.writer.specs.Print.{Piece, bytesOf, own}
 use Rattle.cursor.specs.declared.Cursor.{Cursor}
-use Rattle.cursor.specs.Onto.{Reached, reached, W, then, bump, numberAt, kindAt, parentAt, passNode, passComment, putOut, partOut, tokenOut}
+use Rattle.cursor.specs.Onto.{Reached, reached, W, then, numberAt, kindAt, parentAt, passNode, passComment, putOut, partOut, tokenOut}
 
 abbrev pub Rows : Type 0
 Rows = List (List ℕ)

@@ -14,6 +14,10 @@ use Rattle.cursor.specs.declared.Cursor.{Cursor}
 use Rattle.cursor.specs.Onto.{Reached, W, _⨟_, commentsOut, reached, kindAt, numberAt, parentAt, passBelow, passComments, passNode, putOut, sayOut, spacesOut, stay, then, tokenOut}
 use Rattle.write_fields.specs.Onto.{annotationOut, annotationsOut, assignedOut, bracketsOut, commaOut, containerOut, eachOut, fieldHeadOut, fieldOut, hasValue, idOut, isOf, mapTypeOut, paramOut, propertyOut, requiredOut, typedNameOut, typeOut, valueOut}
 
+either : (b : Bool) (x : Reached) → cond b x x ≡ x
+either true x = refl
+either false x = refl
+
 -- a claim of no depth and of one more, by the test of the code
 by-depth : (F : Bool → ℕ → Reached) (d : ℕ) → F false d ≡ F (eqb (suc d) 0) (suc d - 1)
 by-depth F d = ap (λ (z : Bool). F z d) (sym (ne-eqb (suc d) 0 (λ e. omega arith))) ∙ ap (F (eqb (suc d) 0)) (omega arith)
@@ -48,6 +52,13 @@ type-at text nodes count (suc d) p o = by-depth (λ z n. typeBy text nodes count
 pub type-is : (text nodes : List ℕ) (count d : ℕ) (p : Cursor) (o : List ℕ) {k : ℕ} → k ≡ kindAt nodes count (p .node) →
     typeOut text nodes count d p o ≡ typeBy text nodes count (eqb d 0) k (d - 1) p o
 type-is text nodes count d p o h = type-at text nodes count d p o ∙ ap (λ (x : ℕ). typeBy text nodes count (eqb d 0) x (d - 1) p o) (sym h)
+
+-- a type of a small kind is one token
+pub type-token : (text nodes : List ℕ) (count d : ℕ) (p : Cursor) (o : List ℕ) {k : ℕ} → k ≡ kindAt nodes count (p .node) → k < 20 →
+    typeOut text nodes count d p o ≡ tokenOut text nodes p o
+type-token text nodes count d p o {k} h l =
+    type-is text nodes count d p o h
+    ∙ rw (ne-eqb k 20 (λ e. omega (arith, e, l)), ne-eqb k 21 (λ e. omega (arith, e, l)), ne-eqb k 22 (λ e. omega (arith, e, l))) (either (eqb d 0) (tokenOut text nodes p o))
 
 -- ---- values
 
@@ -89,6 +100,13 @@ pub value-is : (text nodes : List ℕ) (count d : ℕ) (p : Cursor) (o : List �
     valueOut text nodes count d p o ≡ valueBy text nodes count (eqb d 0) k (d - 1) p o
 value-is text nodes count d p o h = value-at text nodes count d p o ∙ ap (λ (x : ℕ). valueBy text nodes count (eqb d 0) x (d - 1) p o) (sym h)
 
+-- a value of a small kind is one token
+pub value-token : (text nodes : List ℕ) (count d : ℕ) (p : Cursor) (o : List ℕ) {k : ℕ} → k ≡ kindAt nodes count (p .node) → k < 29 →
+    valueOut text nodes count d p o ≡ tokenOut text nodes p o
+value-token text nodes count d p o {k} h l =
+    value-is text nodes count d p o h
+    ∙ rw (ne-eqb k 29 (λ e. omega (arith, e, l)), ne-eqb k 30 (λ e. omega (arith, e, l))) (either (eqb d 0) (tokenOut text nodes p o))
+
 -- ---- annotations
 
 pub annotation-is : (text nodes : List ℕ) (p : Cursor) (o : List ℕ) → annotationOut text nodes p o ≡
@@ -104,6 +122,11 @@ pub annotations-is : (text nodes : List ℕ) (count owner : ℕ) (p : Cursor) (o
     (reached p o)
 unfolding annotationsOut bracketsOut sayOut ascii
 annotations-is text nodes count owner p o = refl
+
+pub annotations-none : (text nodes : List ℕ) (count owner : ℕ) (p : Cursor) (o : List ℕ) {x : ℕ} → x ≡ parentAt nodes count (p .node) → (x ≡ owner → ⊥) →
+    reached p o ≡ annotationsOut text nodes count owner p o
+unfolding annotationsOut
+annotations-none text nodes count owner p o {x} e h = rw (sym e, ne-eqb x owner h)
 
 -- ---- fields
 

@@ -1,8 +1,10 @@
 // The print of types, values, annotations, fields and parameters: rico's writer/types.rs, values.rs and common.rs.
 ghost use mathlib.Core.Path.{_≡_};
 ghost use mathlib.Core.Bool.{true};
+ghost use Rattle.ast.specs.Records.{room};
 ghost use Rattle.cursor.specs.Onto.{Writes, tokenOut};
 ghost use Rattle.write_fields.specs.Onto.{containerOut, mapTypeOut, typeOut, commaOut, eachOut, propertyOut, bracketsOut, valueOut, annotationOut, annotationsOut, idOut, requiredOut, hasValue, assignedOut, typedNameOut, fieldHeadOut, fieldOut, paramOut, isOf, paramsOut};
+use ast::WIDTH;
 use ast::flag;
 use cursor::Cursor;
 use parser::NESTING;
@@ -11,60 +13,45 @@ use parser::NESTING;
 fn write_container(
     text: &[u8],
     nodes: &[u32],
-    count: u32,
     out: &mut [u8],
     at: Cursor,
     word: &[u8],
     depth: u32,
 ) -> Cursor
-    ensures { λ r. ⌜ Writes (containerOut (now (word .entry)) (typeOut (now (text .entry)) (now (nodes .entry)) count depth)) at r (now (out .entry)) (now (out .exit)) ⌝ }
+    ensures { λ r. ⌜ Writes (containerOut (now (word .entry)) (typeOut (now (text .entry)) (now (nodes .entry)) (room (now (nodes .entry))) depth)) at r (now (out .entry)) (now (out .exit)) ⌝ }
 {
     let opened = cursor::put(out, cursor::pass_node(at), word);
-    let inner = write_type(text, nodes, count, out, opened, depth);
+    let inner = write_type(text, nodes, out, opened, depth);
     cursor::put(out, inner, b">")
 }
 
 // map<, both types, >
-fn write_map_type(
-    text: &[u8],
-    nodes: &[u32],
-    count: u32,
-    out: &mut [u8],
-    at: Cursor,
-    depth: u32,
-) -> Cursor
-    ensures { λ r. ⌜ Writes (mapTypeOut (typeOut (now (text .entry)) (now (nodes .entry)) count depth)) at r (now (out .entry)) (now (out .exit)) ⌝ }
+fn write_map_type(text: &[u8], nodes: &[u32], out: &mut [u8], at: Cursor, depth: u32) -> Cursor
+    ensures { λ r. ⌜ Writes (mapTypeOut (typeOut (now (text .entry)) (now (nodes .entry)) (room (now (nodes .entry))) depth)) at r (now (out .entry)) (now (out .exit)) ⌝ }
 {
     let opened = cursor::put(out, cursor::pass_node(at), b"map<");
-    let key = write_type(text, nodes, count, out, opened, depth);
+    let key = write_type(text, nodes, out, opened, depth);
     let between = cursor::put(out, key, b", ");
-    let value = write_type(text, nodes, count, out, between, depth);
+    let value = write_type(text, nodes, out, between, depth);
     cursor::put(out, value, b">")
 }
 
 // write_field_type, with `depth` containers left
-fn write_type(
-    text: &[u8],
-    nodes: &[u32],
-    count: u32,
-    out: &mut [u8],
-    at: Cursor,
-    depth: u32,
-) -> Cursor
-    ensures { λ r. ⌜ Writes (typeOut (now (text .entry)) (now (nodes .entry)) count depth) at r (now (out .entry)) (now (out .exit)) ⌝ }
+fn write_type(text: &[u8], nodes: &[u32], out: &mut [u8], at: Cursor, depth: u32) -> Cursor
+    ensures { λ r. ⌜ Writes (typeOut (now (text .entry)) (now (nodes .entry)) (room (now (nodes .entry))) depth) at r (now (out .entry)) (now (out .exit)) ⌝ }
 {
     if depth == 0 {
         return cursor::put_token(text, nodes, out, at);
     }
-    let kind = cursor::kind_at(nodes, count, at.node);
+    let kind = cursor::kind_at(nodes, at.node);
     if kind == ast::kind::LIST {
-        return write_container(text, nodes, count, out, at, b"list<", depth - 1);
+        return write_container(text, nodes, out, at, b"list<", depth - 1);
     }
     if kind == ast::kind::SET {
-        return write_container(text, nodes, count, out, at, b"set<", depth - 1);
+        return write_container(text, nodes, out, at, b"set<", depth - 1);
     }
     if kind == ast::kind::MAP {
-        return write_map_type(text, nodes, count, out, at, depth - 1);
+        return write_map_type(text, nodes, out, at, depth - 1);
     }
     cursor::put_token(text, nodes, out, at)
 }
@@ -80,65 +67,60 @@ fn put_comma(out: &mut [u8], at: Cursor, first: bool) -> Cursor
 }
 
 // write_field_value, with `depth` containers left
-pub fn write_value(
-    text: &[u8],
-    nodes: &[u32],
-    count: u32,
-    out: &mut [u8],
-    at: Cursor,
-    depth: u32,
-) -> Cursor
-    ensures { λ r. ⌜ Writes (valueOut (now (text .entry)) (now (nodes .entry)) count depth) at r (now (out .entry)) (now (out .exit)) ⌝ }
+pub fn write_value(text: &[u8], nodes: &[u32], out: &mut [u8], at: Cursor, depth: u32) -> Cursor
+    ensures { λ r. ⌜ Writes (valueOut (now (text .entry)) (now (nodes .entry)) (room (now (nodes .entry))) depth) at r (now (out .entry)) (now (out .exit)) ⌝ }
 {
     if depth == 0 {
         return cursor::put_token(text, nodes, out, at);
     }
-    let kind = cursor::kind_at(nodes, count, at.node);
+    let kind = cursor::kind_at(nodes, at.node);
     if kind == ast::kind::LIST_VALUE {
-        return write_list(text, nodes, count, out, at, depth - 1);
+        return write_list(text, nodes, out, at, depth - 1);
     }
     if kind == ast::kind::MAP_VALUE {
-        return write_map(text, nodes, count, out, at, depth - 1);
+        return write_map(text, nodes, out, at, depth - 1);
     }
     cursor::put_token(text, nodes, out, at)
 }
 
 // [, the elements, ]
-fn write_list(
-    text: &[u8],
-    nodes: &[u32],
-    count: u32,
-    out: &mut [u8],
-    at: Cursor,
-    depth: u32,
-) -> Cursor
-    ensures { λ r. ⌜ Writes (bracketsOut (now (nodes .entry)) count "[" "]" (valueOut (now (text .entry)) (now (nodes .entry)) count depth)) at r (now (out .entry)) (now (out .exit)) ⌝ }
+fn write_list(text: &[u8], nodes: &[u32], out: &mut [u8], at: Cursor, depth: u32) -> Cursor
+    ensures { λ r. ⌜ Writes (bracketsOut (now (nodes .entry)) (room (now (nodes .entry))) "[" "]" (valueOut (now (text .entry)) (now (nodes .entry)) (room (now (nodes .entry))) depth)) at r (now (out .entry)) (now (out .exit)) ⌝ }
 {
     let opened = cursor::put(out, cursor::pass_node(at), b"[");
-    let inner = write_elements(text, nodes, count, out, opened, at.node, depth);
+    let inner = write_elements(text, nodes, out, opened, at.node, depth);
     cursor::put(out, inner, b"]")
+}
+
+// an element or a default; most are one token
+fn write_element(text: &[u8], nodes: &[u32], out: &mut [u8], at: Cursor, depth: u32) -> Cursor
+    ensures { λ r. ⌜ Writes (valueOut (now (text .entry)) (now (nodes .entry)) (room (now (nodes .entry))) depth) at r (now (out .entry)) (now (out .exit)) ⌝ }
+{
+    if cursor::kind_at(nodes, at.node) < ast::kind::LIST_VALUE {
+        return cursor::put_token(text, nodes, out, at);
+    }
+    write_value(text, nodes, out, at, depth)
 }
 
 fn write_elements(
     text: &[u8],
     nodes: &[u32],
-    count: u32,
     out: &mut [u8],
     at: Cursor,
     owner: u32,
     depth: u32,
 ) -> Cursor
-    ensures { λ r. ⌜ Writes (eachOut (now (nodes .entry)) count owner (valueOut (now (text .entry)) (now (nodes .entry)) count depth) true count) at r (now (out .entry)) (now (out .exit)) ⌝ }
+    ensures { λ r. ⌜ Writes (eachOut (now (nodes .entry)) (room (now (nodes .entry))) owner (valueOut (now (text .entry)) (now (nodes .entry)) (room (now (nodes .entry))) depth) true (room (now (nodes .entry)))) at r (now (out .entry)) (now (out .exit)) ⌝ }
 {
     let mut now = at;
     let mut first = true;
-    let mut left = count;
+    let mut left = nodes.len() / WIDTH;
     while 0 < left {
-        if cursor::parent_at(nodes, count, now.node) != owner {
+        if cursor::parent_at(nodes, now.node) != owner {
             return now;
         }
         let parted = put_comma(out, now, first);
-        now = write_value(text, nodes, count, out, parted, depth);
+        now = write_element(text, nodes, out, parted, depth);
         first = false;
         left -= 1;
     }
@@ -146,60 +128,45 @@ fn write_elements(
 }
 
 // {, the properties, }
-fn write_map(
-    text: &[u8],
-    nodes: &[u32],
-    count: u32,
-    out: &mut [u8],
-    at: Cursor,
-    depth: u32,
-) -> Cursor
-    ensures { λ r. ⌜ Writes (bracketsOut (now (nodes .entry)) count "{" "}" (propertyOut (valueOut (now (text .entry)) (now (nodes .entry)) count depth))) at r (now (out .entry)) (now (out .exit)) ⌝ }
+fn write_map(text: &[u8], nodes: &[u32], out: &mut [u8], at: Cursor, depth: u32) -> Cursor
+    ensures { λ r. ⌜ Writes (bracketsOut (now (nodes .entry)) (room (now (nodes .entry))) "{" "}" (propertyOut (valueOut (now (text .entry)) (now (nodes .entry)) (room (now (nodes .entry))) depth))) at r (now (out .entry)) (now (out .exit)) ⌝ }
 {
     let opened = cursor::put(out, cursor::pass_node(at), b"{");
-    let inner = write_properties(text, nodes, count, out, opened, at.node, depth);
+    let inner = write_properties(text, nodes, out, opened, at.node, depth);
     cursor::put(out, inner, b"}")
 }
 
 fn write_properties(
     text: &[u8],
     nodes: &[u32],
-    count: u32,
     out: &mut [u8],
     at: Cursor,
     owner: u32,
     depth: u32,
 ) -> Cursor
-    ensures { λ r. ⌜ Writes (eachOut (now (nodes .entry)) count owner (propertyOut (valueOut (now (text .entry)) (now (nodes .entry)) count depth)) true count) at r (now (out .entry)) (now (out .exit)) ⌝ }
+    ensures { λ r. ⌜ Writes (eachOut (now (nodes .entry)) (room (now (nodes .entry))) owner (propertyOut (valueOut (now (text .entry)) (now (nodes .entry)) (room (now (nodes .entry))) depth)) true (room (now (nodes .entry)))) at r (now (out .entry)) (now (out .exit)) ⌝ }
 {
     let mut now = at;
     let mut first = true;
-    let mut left = count;
+    let mut left = nodes.len() / WIDTH;
     while 0 < left {
-        if cursor::parent_at(nodes, count, now.node) != owner {
+        if cursor::parent_at(nodes, now.node) != owner {
             return now;
         }
         let parted = put_comma(out, now, first);
-        now = write_property(text, nodes, count, out, parted, depth);
+        now = write_property(text, nodes, out, parted, depth);
         first = false;
         left -= 1;
     }
     now
 }
 
-fn write_property(
-    text: &[u8],
-    nodes: &[u32],
-    count: u32,
-    out: &mut [u8],
-    at: Cursor,
-    depth: u32,
-) -> Cursor
-    ensures { λ r. ⌜ Writes (propertyOut (valueOut (now (text .entry)) (now (nodes .entry)) count depth)) at r (now (out .entry)) (now (out .exit)) ⌝ }
+fn write_property(text: &[u8], nodes: &[u32], out: &mut [u8], at: Cursor, depth: u32) -> Cursor
+    ensures { λ r. ⌜ Writes (propertyOut (valueOut (now (text .entry)) (now (nodes .entry)) (room (now (nodes .entry))) depth)) at r (now (out .entry)) (now (out .exit)) ⌝ }
 {
-    let key = write_value(text, nodes, count, out, cursor::pass_node(at), depth);
+    let key = write_value(text, nodes, out, cursor::pass_node(at), depth);
     let colon = cursor::put(out, key, b": ");
-    write_value(text, nodes, count, out, colon, depth)
+    write_value(text, nodes, out, colon, depth)
 }
 
 // name, ` = `, value
@@ -214,18 +181,17 @@ fn write_annotation(text: &[u8], nodes: &[u32], out: &mut [u8], at: Cursor) -> C
 fn write_annotation_list(
     text: &[u8],
     nodes: &[u32],
-    count: u32,
     out: &mut [u8],
     at: Cursor,
     owner: u32,
 ) -> Cursor
-    ensures { λ r. ⌜ Writes (eachOut (now (nodes .entry)) count owner (annotationOut (now (text .entry)) (now (nodes .entry))) true count) at r (now (out .entry)) (now (out .exit)) ⌝ }
+    ensures { λ r. ⌜ Writes (eachOut (now (nodes .entry)) (room (now (nodes .entry))) owner (annotationOut (now (text .entry)) (now (nodes .entry))) true (room (now (nodes .entry)))) at r (now (out .entry)) (now (out .exit)) ⌝ }
 {
     let mut now = at;
     let mut first = true;
-    let mut left = count;
+    let mut left = nodes.len() / WIDTH;
     while 0 < left {
-        if cursor::parent_at(nodes, count, now.node) != owner {
+        if cursor::parent_at(nodes, now.node) != owner {
             return now;
         }
         let parted = put_comma(out, now, first);
@@ -240,29 +206,28 @@ fn write_annotation_list(
 pub fn write_annotations(
     text: &[u8],
     nodes: &[u32],
-    count: u32,
     out: &mut [u8],
     at: Cursor,
     owner: u32,
 ) -> Cursor
-    ensures { λ r. ⌜ Writes (annotationsOut (now (text .entry)) (now (nodes .entry)) count owner) at r (now (out .entry)) (now (out .exit)) ⌝ }
+    ensures { λ r. ⌜ Writes (annotationsOut (now (text .entry)) (now (nodes .entry)) (room (now (nodes .entry))) owner) at r (now (out .entry)) (now (out .exit)) ⌝ }
 {
-    if cursor::parent_at(nodes, count, at.node) != owner {
+    if cursor::parent_at(nodes, at.node) != owner {
         return at;
     }
-    if cursor::kind_at(nodes, count, at.node) != ast::kind::ANNOTATIONS {
+    if cursor::kind_at(nodes, at.node) != ast::kind::ANNOTATIONS {
         return at;
     }
     let opened = cursor::put(out, cursor::pass_node(at), b" (");
-    let inner = write_annotation_list(text, nodes, count, out, opened, at.node);
+    let inner = write_annotation_list(text, nodes, out, opened, at.node);
     cursor::put(out, inner, b")")
 }
 
 // an id and `: `, if the next node is one
-fn write_id(text: &[u8], nodes: &[u32], count: u32, out: &mut [u8], at: Cursor) -> Cursor
-    ensures { λ r. ⌜ Writes (idOut (now (text .entry)) (now (nodes .entry)) count) at r (now (out .entry)) (now (out .exit)) ⌝ }
+fn write_id(text: &[u8], nodes: &[u32], out: &mut [u8], at: Cursor) -> Cursor
+    ensures { λ r. ⌜ Writes (idOut (now (text .entry)) (now (nodes .entry)) (room (now (nodes .entry)))) at r (now (out .entry)) (now (out .exit)) ⌝ }
 {
-    if cursor::kind_at(nodes, count, at.node) != ast::kind::FIELD_ID {
+    if cursor::kind_at(nodes, at.node) != ast::kind::FIELD_ID {
         return at;
     }
     let id = cursor::put_token(text, nodes, out, at);
@@ -282,62 +247,58 @@ fn write_required(out: &mut [u8], at: Cursor, flags: u32) -> Cursor
 }
 
 // whether the owner's next node is a value
-fn has_value(nodes: &[u32], count: u32, at: Cursor, owner: u32) -> bool
-    ensures { λ r. ⌜ r ≡ hasValue (now (nodes .entry)) count owner (at .node) ⌝ }
+fn has_value(nodes: &[u32], at: Cursor, owner: u32) -> bool
+    ensures { λ r. ⌜ r ≡ hasValue (now (nodes .entry)) (room (now (nodes .entry))) owner (at .node) ⌝ }
 {
-    if cursor::parent_at(nodes, count, at.node) != owner {
+    if cursor::parent_at(nodes, at.node) != owner {
         return false;
     }
-    cursor::kind_at(nodes, count, at.node) != ast::kind::ANNOTATIONS
+    cursor::kind_at(nodes, at.node) != ast::kind::ANNOTATIONS
 }
 
 // ` = ` and a value, if the owner has one
-fn write_default(
-    text: &[u8],
-    nodes: &[u32],
-    count: u32,
-    out: &mut [u8],
-    at: Cursor,
-    owner: u32,
-) -> Cursor
-    ensures { λ r. ⌜ Writes (assignedOut (now (nodes .entry)) count owner (valueOut (now (text .entry)) (now (nodes .entry)) count 32)) at r (now (out .entry)) (now (out .exit)) ⌝ }
+fn write_default(text: &[u8], nodes: &[u32], out: &mut [u8], at: Cursor, owner: u32) -> Cursor
+    ensures { λ r. ⌜ Writes (assignedOut (now (nodes .entry)) (room (now (nodes .entry))) owner (valueOut (now (text .entry)) (now (nodes .entry)) (room (now (nodes .entry))) 32)) at r (now (out .entry)) (now (out .exit)) ⌝ }
 {
-    if !has_value(nodes, count, at, owner) {
+    if !has_value(nodes, at, owner) {
         return at;
     }
     let equals = cursor::put(out, at, b" = ");
-    write_value(text, nodes, count, out, equals, NESTING)
+    write_element(text, nodes, out, equals, NESTING)
 }
 
 // the same of an enum member, whose value is one token
 pub fn write_initializer(
     text: &[u8],
     nodes: &[u32],
-    count: u32,
     out: &mut [u8],
     at: Cursor,
     owner: u32,
 ) -> Cursor
-    ensures { λ r. ⌜ Writes (assignedOut (now (nodes .entry)) count owner (tokenOut (now (text .entry)) (now (nodes .entry)))) at r (now (out .entry)) (now (out .exit)) ⌝ }
+    ensures { λ r. ⌜ Writes (assignedOut (now (nodes .entry)) (room (now (nodes .entry))) owner (tokenOut (now (text .entry)) (now (nodes .entry)))) at r (now (out .entry)) (now (out .exit)) ⌝ }
 {
-    if !has_value(nodes, count, at, owner) {
+    if !has_value(nodes, at, owner) {
         return at;
     }
     let equals = cursor::put(out, at, b" = ");
     cursor::put_token(text, nodes, out, equals)
 }
 
-// a type, a space, a name
-pub fn write_typed_name(
-    text: &[u8],
-    nodes: &[u32],
-    count: u32,
-    out: &mut [u8],
-    at: Cursor,
-) -> Cursor
-    ensures { λ r. ⌜ Writes (typedNameOut (now (text .entry)) (now (nodes .entry)) count) at r (now (out .entry)) (now (out .exit)) ⌝ }
+// a type that stands in no container; most are one token
+fn write_outer_type(text: &[u8], nodes: &[u32], out: &mut [u8], at: Cursor) -> Cursor
+    ensures { λ r. ⌜ Writes (typeOut (now (text .entry)) (now (nodes .entry)) (room (now (nodes .entry))) 32) at r (now (out .entry)) (now (out .exit)) ⌝ }
 {
-    let typed = write_type(text, nodes, count, out, at, NESTING);
+    if cursor::kind_at(nodes, at.node) < ast::kind::LIST {
+        return cursor::put_token(text, nodes, out, at);
+    }
+    write_type(text, nodes, out, at, NESTING)
+}
+
+// a type, a space, a name
+pub fn write_typed_name(text: &[u8], nodes: &[u32], out: &mut [u8], at: Cursor) -> Cursor
+    ensures { λ r. ⌜ Writes (typedNameOut (now (text .entry)) (now (nodes .entry)) (room (now (nodes .entry)))) at r (now (out .entry)) (now (out .exit)) ⌝ }
+{
+    let typed = write_outer_type(text, nodes, out, at);
     let parted = cursor::put(out, typed, b" ");
     cursor::put_token(text, nodes, out, parted)
 }
@@ -346,72 +307,48 @@ pub fn write_typed_name(
 fn write_field_head(
     text: &[u8],
     nodes: &[u32],
-    count: u32,
     out: &mut [u8],
     at: Cursor,
     owner: u32,
     flags: u32,
 ) -> Cursor
-    ensures { λ r. ⌜ Writes (fieldHeadOut (now (text .entry)) (now (nodes .entry)) count owner flags) at r (now (out .entry)) (now (out .exit)) ⌝ }
+    ensures { λ r. ⌜ Writes (fieldHeadOut (now (text .entry)) (now (nodes .entry)) (room (now (nodes .entry))) owner flags) at r (now (out .entry)) (now (out .exit)) ⌝ }
 {
-    let id = write_id(text, nodes, count, out, at);
+    let id = write_id(text, nodes, out, at);
     let required = write_required(out, id, flags);
-    let named = write_typed_name(text, nodes, count, out, required);
-    write_default(text, nodes, count, out, named, owner)
+    let named = write_typed_name(text, nodes, out, required);
+    write_default(text, nodes, out, named, owner)
 }
 
 // write_field
 pub fn write_field(
     text: &[u8],
     nodes: &[u32],
-    count: u32,
     comments: &[u32],
-    total: u32,
     out: &mut [u8],
     at: Cursor,
     indent: u32,
 ) -> Cursor
-    ensures { λ r. ⌜ Writes (fieldOut (now (text .entry)) (now (nodes .entry)) count (now (comments .entry)) total indent) at r (now (out .entry)) (now (out .exit)) ⌝ }
+    ensures { λ r. ⌜ Writes (fieldOut (now (text .entry)) (now (nodes .entry)) (room (now (nodes .entry))) (now (comments .entry)) (room (now (comments .entry))) indent) at r (now (out .entry)) (now (out .exit)) ⌝ }
 {
-    let noted = cursor::put_comments(text, comments, total, out, at, at.node, indent);
+    let noted = cursor::put_comments(text, comments, out, at, indent);
     let spaced = cursor::put_spaces(out, noted, indent);
     let flags = cursor::number_at(nodes, at.node, 2);
-    let head = write_field_head(
-        text,
-        nodes,
-        count,
-        out,
-        cursor::pass_node(spaced),
-        at.node,
-        flags,
-    );
-    let annotated = write_annotations(text, nodes, count, out, head, at.node);
+    let head = write_field_head(text, nodes, out, cursor::pass_node(spaced), at.node, flags);
+    if cursor::parent_at(nodes, head.node) != at.node {
+        return cursor::put(out, head, b",\n"); // no annotations
+    }
+    let annotated = write_annotations(text, nodes, out, head, at.node);
     cursor::put(out, annotated, b",\n")
 }
 
 // write_param: no comments, no requiredness, no annotations
-fn write_param(
-    text: &[u8],
-    nodes: &[u32],
-    count: u32,
-    comments: &[u32],
-    total: u32,
-    out: &mut [u8],
-    at: Cursor,
-) -> Cursor
-    ensures { λ r. ⌜ Writes (paramOut (now (text .entry)) (now (nodes .entry)) count (now (comments .entry)) total) at r (now (out .entry)) (now (out .exit)) ⌝ }
+fn write_param(text: &[u8], nodes: &[u32], comments: &[u32], out: &mut [u8], at: Cursor) -> Cursor
+    ensures { λ r. ⌜ Writes (paramOut (now (text .entry)) (now (nodes .entry)) (room (now (nodes .entry))) (now (comments .entry)) (room (now (comments .entry)))) at r (now (out .entry)) (now (out .exit)) ⌝ }
 {
-    let noted = cursor::pass_comments(comments, total, at, at.node);
-    let head = write_field_head(
-        text,
-        nodes,
-        count,
-        out,
-        cursor::pass_node(noted),
-        at.node,
-        0,
-    );
-    cursor::pass_below(nodes, count, head, at.node)
+    let noted = cursor::pass_comments(comments, at);
+    let head = write_field_head(text, nodes, out, cursor::pass_node(noted), at.node, 0);
+    cursor::pass_below(nodes, head, at.node)
 }
 
 // whether a field with these flags is thrown, or is not
@@ -428,27 +365,25 @@ fn is_of(thrown: bool, flags: u32) -> bool
 pub fn write_params(
     text: &[u8],
     nodes: &[u32],
-    count: u32,
     comments: &[u32],
-    total: u32,
     out: &mut [u8],
     at: Cursor,
     thrown: bool,
 ) -> Cursor
-    ensures { λ r. ⌜ Writes (paramsOut (now (text .entry)) (now (nodes .entry)) count (now (comments .entry)) total thrown) at r (now (out .entry)) (now (out .exit)) ⌝ }
+    ensures { λ r. ⌜ Writes (paramsOut (now (text .entry)) (now (nodes .entry)) (room (now (nodes .entry))) (now (comments .entry)) (room (now (comments .entry))) thrown) at r (now (out .entry)) (now (out .exit)) ⌝ }
 {
     let mut now = at;
     let mut first = true;
-    let mut left = count;
+    let mut left = nodes.len() / WIDTH;
     while 0 < left {
-        if cursor::kind_at(nodes, count, now.node) != ast::kind::FIELD {
+        if cursor::kind_at(nodes, now.node) != ast::kind::FIELD {
             return now;
         }
         if !is_of(thrown, cursor::number_at(nodes, now.node, 2)) {
             return now;
         }
         let parted = put_comma(out, now, first);
-        now = write_param(text, nodes, count, comments, total, out, parted);
+        now = write_param(text, nodes, comments, out, parted);
         first = false;
         left -= 1;
     }

@@ -1,18 +1,14 @@
 -- `cursor::parent_at` meets its contract.
 use borrow.Author.Needs.{needs}
-use borrow.Author.Tests.{lt-ltb, le-ltb}
-use Rattle.ast.specs.Records.{noParent}
-use Rattle.cursor.specs.Onto.{parentAt}
+use Rattle.cursor.proofs.Bytes.{parent-in, parent-past}
 use Rattle.cursor.proofs.parent_at.Statement.{statement}
 use Rattle.cursor.proofs.parent_at.Tie as tie
 
 returns : tie.Need-returns
-unfolding parentAt
-returns c = rw (lt-ltb _ _ (c .before .if1 .taken)) (c .number-at .ensures)
+returns c = parent-in _ _ (c .before .if1 .taken)
 
 returns-2 : tie.Need-returns-2
-unfolding parentAt noParent
-returns-2 c = rw (le-ltb _ _ (c .if1 .left))
+returns-2 c = parent-past _ _ (c .if1 .left)
 
 pub parent-at-spec : {M : Type 1} → statement M
-parent-at-spec = tie.close (tie.spec (λ c κs. search needs) returns returns-2)
+parent-at-spec = tie.close (tie.spec (λ c. search needs) (λ c. search needs) (λ c. search needs) (λ c. search needs) (λ c. search needs) returns returns-2)

@@ -5,20 +5,21 @@ use Prim.Native.Nat.{ℕ}
 use native.Mathlib.Omega.{arith}
 use borrow.Author.Needs.{needs}
 use borrow.Author.Tests.{not-true, not-false}
+use Rattle.ast.specs.Records.{width, room}
 use Rattle.cursor.specs.Onto.{passBelowFrom, passBelow}
 use Rattle.cursor.proofs.Runs.{below-none, below-stop, below-turn}
 use Rattle.cursor.proofs.pass_below.Statement.{statement}
 use Rattle.cursor.proofs.pass_below.Tie as tie
 
 abbrev Inv-loop : tie.InvT-loop
-Inv-loop nodes count owner now₀ left₀ now left =
-    (o : List ℕ) → passBelow nodes count owner now₀ o ≡ passBelowFrom nodes count owner left now o
+Inv-loop nodes owner now₀ left₀ now left =
+    (o : List ℕ) → passBelow nodes (room nodes) owner now₀ o ≡ passBelowFrom nodes (room nodes) owner left now o
 
 abbrev μ-loop : tie.MeasureT-loop
-μ-loop nodes count owner now₀ left₀ now left = left
+μ-loop nodes owner now₀ left₀ now left = left
 
 loop-holds : tie.Need-loop-holds Inv-loop μ-loop
-unfolding passBelow
+unfolding passBelow room width
 loop-holds c = λ o. refl
 
 returns : tie.Need-returns Inv-loop μ-loop

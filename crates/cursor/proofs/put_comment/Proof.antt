@@ -7,8 +7,8 @@ use Rattle.cursor.proofs.put_comment.Tie as tie
 returns : tie.Need-returns
 returns c =
     comment-is _ _ _ _ _ _ _ _ _ _ _ _ _ _
-    (c .before .before .before .before .before .before .before .before .before .before .before .before .before .before .before .number-at .ensures)
-    (c .before .before .before .before .before .before .before .before .before .before .before .before .before .before .number-at2 .ensures)
+    (c .before .before .before .before .before .before .before .before .before .before .before .before .before .before .part-at .ensures .0)
+    (c .before .before .before .before .before .before .before .before .before .before .before .before .before .before .part-at .ensures .1)
     (c .before .before .before .before .before .before .before .before .before .before .before .before .put-spaces .ensures)
     (c .before .before .before .before .before .before .before .before .put-part .ensures)
     (c .before .before .before .put .ensures)
@@ -18,7 +18,6 @@ pub put-comment-spec : {M : Type 1} → statement M
 put-comment-spec =
     tie.close
     (tie.spec
-    (λ c κs. search needs)
     (λ c κs. search needs)
     (λ c κs. search needs)
     (λ c κs. search needs)

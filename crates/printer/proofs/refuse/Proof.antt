@@ -1,14 +1,13 @@
 -- `printer::refuse` meets its contract.
 use borrow.Author.Needs.{needs}
 use Rattle.writer.specs.Write.{said}
-use Rattle.printer.specs.Onto.{refusing}
-use Rattle.steps.proofs.Cells.{wipe-all}
+use Rattle.printer.proofs.Whole.{refused-is}
 use Rattle.printer.proofs.refuse.Statement.{statement}
 use Rattle.printer.proofs.refuse.Tie as tie
 
 returns : tie.Need-returns
-unfolding refusing said
-returns c = rw (c .before .before .before .before .before .before .before .before .before .before .clear .ensures, c .before .before .before .before .before .before .clear2 .ensures, c .before .before .clear3 .ensures, wipe-all, wipe-all, wipe-all)
+unfolding said
+returns c = refused-is _ _ _ _ _ _ _ _ _ (c .before .before .before .before .before .before .before .before .before .before .clear .ensures) (c .before .before .before .before .before .before .clear2 .ensures) (c .before .before .clear3 .ensures)
 
 pub refuse-spec : {M : Type 1} → statement M
 refuse-spec =

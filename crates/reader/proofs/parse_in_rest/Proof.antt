@@ -5,7 +5,7 @@ use Rattle.reader.proofs.parse_in_rest.Statement.{statement}
 use Rattle.reader.proofs.parse_in_rest.Tie as tie
 
 returns : tie.Need-returns
-returns c = rest-is _ _ _ _ _ _ _ _ (c .before .before .before .before .before .before .before .rest-of .ensures .0) (c .before .before .before .before .parse-definition .ensures)
+returns c = rest-is _ _ _ _ _ _ _ _ (c .before .before .before .before .before .before .before .start-of .ensures .0) (c .before .before .before .before .parse-definition .ensures)
 
 pub parse-in-rest-spec : {M : Type 1} → statement M
 parse-in-rest-spec =

@@ -6,15 +6,12 @@ use Rattle.write_definitions.proofs.write_body.Statement.{statement}
 use Rattle.write_definitions.proofs.write_body.Tie as tie
 
 returns : tie.Need-returns
-returns c = last _ _ (kept _ _ _ (kept _ _ _ (kept _ _ _ (kept _ _ _ (body-is _ _ _ _ _ _ _ _ _ _) _ _ (c .before .before .before .before .before .before .before .before .before .before .before .before .before .before .before .before .before .before .before .before .put .ensures)) _ _ (c .before .before .before .before .before .before .before .before .before .before .before .before .before .before .before .before .write-members .ensures)) _ _ (c .before .before .before .before .before .before .before .before .before .before .before .put2 .ensures)) _ _ (c .before .before .before .before .before .before .before .write-annotations .ensures)) _ _ (c .before .before .put3 .ensures)
+returns c = last _ _ (kept _ _ _ (kept _ _ _ (body-is _ _ _ _ _ _ _ _ _) _ _ (c .before .before .before .before .before .before .before .before .before .before .before .put .ensures)) _ _ (c .before .before .before .before .before .before .before .write-members .ensures)) _ _ (c .before .before .put2 .ensures)
 
 pub write-body-spec : {M : Type 1} → statement M
 write-body-spec =
     tie.close
     (tie.spec
-    (λ c. search needs)
-    (λ c κs. search needs)
-    (λ c κs. search needs)
     (λ c. search needs)
     (λ c κs. search needs)
     (λ c κs. search needs)

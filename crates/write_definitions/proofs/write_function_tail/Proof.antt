@@ -7,7 +7,7 @@ use Rattle.write_definitions.proofs.write_function_tail.Statement.{stat
 use Rattle.write_definitions.proofs.write_function_tail.Tie as tie
 
 same-length : tie.Need-same-length
-same-length c = c .before .before .put3 .kept .0 ∙ c .before .before .before .before .before .before .before .write-annotations .kept .1 .1 .1 .0 ∙ c .before .before .before .before .before .before .before .before .before .before .before .write-throws .kept .1 .1 .1 .1 .1 .0 ∙ c .before .before .before .before .before .before .before .before .before .before .before .before .before .before .before .put2 .kept .0 ∙ c .before .before .before .before .before .before .before .before .before .before .before .before .before .before .before .before .before .before .before .before .write-params .kept .1 .1 .1 .1 .1 .0 ∙ c .before .before .before .before .before .before .before .before .before .before .before .before .before .before .before .before .before .before .before .before .before .before .before .before .put .kept .0
+same-length c = c .before .before .put3 .kept .0 ∙ c .before .before .before .before .before .before .before .write-annotations .kept .1 .1 .0 ∙ c .before .before .before .before .before .before .before .before .before .before .before .write-throws .kept .1 .1 .1 .0 ∙ c .before .before .before .before .before .before .before .before .before .before .before .before .before .before .before .put2 .kept .0 ∙ c .before .before .before .before .before .before .before .before .before .before .before .before .before .before .before .before .before .before .before .before .write-params .kept .1 .1 .1 .0 ∙ c .before .before .before .before .before .before .before .before .before .before .before .before .before .before .before .before .before .before .before .before .before .before .before .before .put .kept .0
 
 returns : tie.Need-returns
 returns c = last _ _ (kept _ _ _ (kept _ _ _ (kept _ _ _ (kept _ _ _ (kept _ _ _ (function-tail-is _ _ _ _ _ _ _ _ _) _ _ (c .before .before .before .before .before .before .before .before .before .before .before .before .before .before .before .before .before .before .before .before .before .before .before .before .put .ensures)) _ _ (c .before .before .before .before .before .before .before .before .before .before .before .before .before .before .before .before .before .before .before .before .write-params .ensures)) _ _ (c .before .before .before .before .before .before .before .before .before .before .before .before .before .before .before .put2 .ensures)) _ _ (c .before .before .before .before .before .before .before .before .before .before .before .write-throws .ensures)) _ _ (c .before .before .before .before .before .before .before .write-annotations .ensures)) _ _ (c .before .before .put3 .ensures)

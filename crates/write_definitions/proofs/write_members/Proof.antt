@@ -6,16 +6,18 @@ use Rattle.write_fields.proofs.Rounds.{Going, starts}
 use Rattle.write_definitions.proofs.Rounds.{members-turn, members-over}
 use Rattle.write_definitions.specs.Onto.{membersFrom}
 use borrow.Author.Needs.{needs}
+use Rattle.ast.specs.Records.{width, room}
 use Rattle.write_definitions.proofs.write_members.Statement.{statement}
 use Rattle.write_definitions.proofs.write_members.Tie as tie
 
 abbrev Inv-loop : tie.InvT-loop
-Inv-loop text nodes count comments total out₀ indent kind now₀ left₀ out now left = Going (membersFrom text nodes count comments total indent kind count) (membersFrom text nodes count comments total indent kind left) now₀ out₀ now out
+Inv-loop text nodes comments out₀ indent kind now₀ left₀ out now left = Going (membersFrom text nodes (room nodes) comments (room comments) indent kind (room nodes)) (membersFrom text nodes (room nodes) comments (room comments) indent kind left) now₀ out₀ now out
 
 abbrev μ-loop : tie.MeasureT-loop
-μ-loop text nodes count comments total out₀ indent kind now₀ left₀ out now left = left
+μ-loop text nodes comments out₀ indent kind now₀ left₀ out now left = left
 
 loop-holds : tie.Need-loop-holds Inv-loop μ-loop
+unfolding room width
 loop-holds c = starts _ _ _
 
 same-length : tie.Need-same-length Inv-loop μ-loop
@@ -31,7 +33,7 @@ loop-less : tie.Need-loop-less Inv-loop μ-loop
 loop-less c = omega (arith, c .before .before .before .before .before .before .loop-test .taken)
 
 loop-again : tie.Need-loop-again Inv-loop μ-loop
-loop-again c = record { goes = kept _ _ _ (yes _ _ _ _ _ (about _ _ _ _ _ _ (members-turn _ _ _ _ _ _ _ _ _ _ _ (c .before .before .before .before .before .before .before .loop .inv .goes) (c .before .before .before .before .before .before .loop-test .taken)) (c .before .before .before .before .before .kind-at .ensures)) (c .before .before .before .before .if1 .left)) _ _ (c .before .before .write-one .ensures); long = c .before .before .write-one .kept .1 .1 .1 .1 .1 .0 ∙ c .before .before .before .before .before .before .before .loop .inv .long }
+loop-again c = record { goes = kept _ _ _ (yes _ _ _ _ _ (about _ _ _ _ _ _ (members-turn _ _ _ _ _ _ _ _ _ _ _ (c .before .before .before .before .before .before .before .loop .inv .goes) (c .before .before .before .before .before .before .loop-test .taken)) (c .before .before .before .before .before .kind-at .ensures)) (c .before .before .before .before .if1 .left)) _ _ (c .before .before .write-one .ensures); long = c .before .before .write-one .kept .1 .1 .1 .0 ∙ c .before .before .before .before .before .before .before .loop .inv .long }
 
 same-length-2 : tie.Need-same-length-2 Inv-loop μ-loop
 same-length-2 c = c .before .loop .inv .long

@@ -25,13 +25,13 @@ use Rattle.write_fields.proofs.+write_container+write_map_type+write_ty
 use Rattle.write_fields.proofs.+write_container+write_map_type+write_type.Tie.{close}
 
 abbrev μ-write-container : Measures 4 write-container-kinds.ps ℕ
-μ-write-container κs a = 2 * a .1 .1 .1 .1 .1 .1 .0 + 1
+μ-write-container κs a = 2 * a .1 .1 .1 .1 .1 .0 + 1
 
 abbrev μ-write-map-type : Measures 3 write-map-type-kinds.ps ℕ
-μ-write-map-type κs a = 2 * a .1 .1 .1 .1 .1 .0 + 1
+μ-write-map-type κs a = 2 * a .1 .1 .1 .1 .0 + 1
 
 abbrev μ-write-type : Measures 3 write-type-kinds.ps ℕ
-μ-write-type κs a = 2 * a .1 .1 .1 .1 .1 .0
+μ-write-type κs a = 2 * a .1 .1 .1 .1 .0
 
 abbrev write-container-at : ℕ → In 4 write-container-kinds.ps
 write-container-at t = and 4 write-container-kinds.ps (is 4 write-container-kinds.ps μ-write-container t) write-container.Pre
@@ -65,7 +65,7 @@ module _ (t : ℕ) where
   write-container-write-type-requires c κs = (omega (arith, c .before .before .before .before .before .before .before .before .before .before .pre .0), c .before .before .before .before .before .before .before .before .before .before .pre .1)
 
   write-container-same-length : write-container-lts.Need-same-length (write-container-calls t) (write-container-at t) write-container.Post
-  write-container-same-length c = c .before .before .put2 .kept .0 ∙ c .before .before .before .before .before .before .before .write-type .kept .1 .1 .1 .0 ∙ c .before .before .before .before .before .before .before .before .before .before .before .put .kept .0
+  write-container-same-length c = c .before .before .put2 .kept .0 ∙ c .before .before .before .before .before .before .before .write-type .kept .1 .1 .0 ∙ c .before .before .before .before .before .before .before .before .before .before .before .put .kept .0
 
   write-container-returns : write-container-lts.Need-returns (write-container-calls t) (write-container-at t) write-container.Post
   write-container-returns c = last _ _ (kept _ _ _ (kept _ _ _ (kept _ _ _ (container-is _ _ _ _) _ _ (c .before .before .before .before .before .before .before .before .before .before .before .before .pass-node .ensures _)) _ _ (c .before .before .before .before .before .before .before .before .before .before .before .put .ensures)) _ _ (c .before .before .before .before .before .before .before .write-type .ensures)) _ _ (c .before .before .put2 .ensures)
@@ -77,7 +77,7 @@ module _ (t : ℕ) where
   write-map-type-write-type-requires-2 c κs = (omega (arith, c .before .before .before .before .before .before .before .before .before .before .before .before .before .before .before .before .before .before .before .pre .0), c .before .before .before .before .before .before .before .before .before .before .before .before .before .before .before .before .before .before .before .pre .1)
 
   write-map-type-same-length : write-map-type-lts.Need-same-length (write-map-type-calls t) (write-map-type-at t) write-map-type.Post
-  write-map-type-same-length c = c .before .before .put3 .kept .0 ∙ c .before .before .before .before .before .before .before .write-type2 .kept .1 .1 .1 .0 ∙ c .before .before .before .before .before .before .before .before .before .before .before .put2 .kept .0 ∙ c .before .before .before .before .before .before .before .before .before .before .before .before .before .before .before .before .write-type .kept .1 .1 .1 .0 ∙ c .before .before .before .before .before .before .before .before .before .before .before .before .before .before .before .before .before .before .before .before .put .kept .0
+  write-map-type-same-length c = c .before .before .put3 .kept .0 ∙ c .before .before .before .before .before .before .before .write-type2 .kept .1 .1 .0 ∙ c .before .before .before .before .before .before .before .before .before .before .before .put2 .kept .0 ∙ c .before .before .before .before .before .before .before .before .before .before .before .before .before .before .before .before .write-type .kept .1 .1 .0 ∙ c .before .before .before .before .before .before .before .before .before .before .before .before .before .before .before .before .before .before .before .before .put .kept .0
 
   write-map-type-returns : write-map-type-lts.Need-returns (write-map-type-calls t) (write-map-type-at t) write-map-type.Post
   write-map-type-returns c = last _ _ (kept _ _ _ (kept _ _ _ (kept _ _ _ (kept _ _ _ (kept _ _ _ (map-type-is _ _ _) _ _ (c .before .before .before .before .before .before .before .before .before .before .before .before .before .before .before .before .before .before .before .before .before .before .pass-node .ensures _)) _ _ (c .before .before .before .before .before .before .before .before .before .before .before .before .before .before .before .before .before .before .before .before .put .ensures)) _ _ (c .before .before .before .before .before .before .before .before .before .before .before .before .before .before .before .before .write-type .ensures)) _ _ (c .before .before .before .before .before .before .before .before .before .before .before .put2 .ensures)) _ _ (c .before .before .before .before .before .before .before .write-type2 .ensures)) _ _ (c .before .before .put3 .ensures)

@@ -10,7 +10,7 @@ returns : tie.Need-returns
 returns c = ends _ _ _ (no-by _ _ _ _ _ (assigned-is _ _ _ _ _ _) (c .before .has-value .ensures) (not-true _ (c .if1 .taken)))
 
 returns-2 : tie.Need-returns-2
-returns-2 c = last _ _ (kept _ _ _ (yes-by _ _ _ _ _ (assigned-is _ _ _ _ _ _) (c .before .before .before .before .before .before .before .before .before .before .has-value .ensures) (not-false _ (c .before .before .before .before .before .before .before .before .before .if1 .left))) _ _ (c .before .before .before .before .before .before .put .ensures)) _ _ (c .before .before .write-value .ensures)
+returns-2 c = last _ _ (kept _ _ _ (yes-by _ _ _ _ _ (assigned-is _ _ _ _ _ _) (c .before .before .before .before .before .before .before .before .before .before .has-value .ensures) (not-false _ (c .before .before .before .before .before .before .before .before .before .if1 .left))) _ _ (c .before .before .before .before .before .before .put .ensures)) _ _ (c .before .before .write-element .ensures)
 
 pub write-default-spec : {M : Type 1} → statement M
 write-default-spec =

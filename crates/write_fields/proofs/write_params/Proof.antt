@@ -7,16 +7,18 @@ use Rattle.write_fields.proofs.Rounds.{Going, starts, params-is, params
 use mathlib.Core.Bool.{true}
 use Rattle.write_fields.specs.Onto.{isOf, paramsFrom}
 use borrow.Author.Needs.{needs}
+use Rattle.ast.specs.Records.{width, room}
 use Rattle.write_fields.proofs.write_params.Statement.{statement}
 use Rattle.write_fields.proofs.write_params.Tie as tie
 
 abbrev Inv-loop : tie.InvT-loop
-Inv-loop text nodes count comments total out₀ thrown now₀ first₀ left₀ out now first left = Going (paramsFrom text nodes count comments total thrown true count) (paramsFrom text nodes count comments total thrown first left) now₀ out₀ now out
+Inv-loop text nodes comments out₀ thrown now₀ first₀ left₀ out now first left = Going (paramsFrom text nodes (room nodes) comments (room comments) thrown true (room nodes)) (paramsFrom text nodes (room nodes) comments (room comments) thrown first left) now₀ out₀ now out
 
 abbrev μ-loop : tie.MeasureT-loop
-μ-loop text nodes count comments total out₀ thrown now₀ first₀ left₀ out now first left = left
+μ-loop text nodes comments out₀ thrown now₀ first₀ left₀ out now first left = left
 
 loop-holds : tie.Need-loop-holds Inv-loop μ-loop
+unfolding room width
 loop-holds c = starts _ _ _
 
 same-length : tie.Need-same-length Inv-loop μ-loop
@@ -38,7 +40,7 @@ loop-less : tie.Need-loop-less Inv-loop μ-loop
 loop-less c = omega (arith, c .before .before .before .before .before .before .before .before .before .before .before .before .before .loop-test .taken)
 
 loop-again : tie.Need-loop-again Inv-loop μ-loop
-loop-again c = record { goes = kept _ _ _ (kept _ _ _ (yes-by _ _ _ _ _ (yes _ _ _ _ _ (about _ _ _ _ _ _ (params-turn _ _ _ _ _ _ _ _ _ _ _ (c .before .before .before .before .before .before .before .before .before .before .before .before .before .before .loop .inv .goes) (c .before .before .before .before .before .before .before .before .before .before .before .before .before .loop-test .taken)) (c .before .before .before .before .before .before .before .before .before .before .before .before .kind-at .ensures)) (c .before .before .before .before .before .before .before .before .before .before .before .if1 .left)) (c .before .before .before .before .before .before .before .before .before .is-of .ensures ∙ ap (isOf _) (c .before .before .before .before .before .before .before .before .before .before .number-at .ensures)) (not-false _ (c .before .before .before .before .before .before .before .before .if2 .left))) _ _ (c .before .before .before .before .before .before .put-comma .ensures)) _ _ (c .before .before .write-param .ensures); long = c .before .before .write-param .kept .1 .1 .1 .1 .1 .0 ∙ c .before .before .before .before .before .before .put-comma .kept .0 ∙ c .before .before .before .before .before .before .before .before .before .before .before .before .before .before .loop .inv .long }
+loop-again c = record { goes = kept _ _ _ (kept _ _ _ (yes-by _ _ _ _ _ (yes _ _ _ _ _ (about _ _ _ _ _ _ (params-turn _ _ _ _ _ _ _ _ _ _ _ (c .before .before .before .before .before .before .before .before .before .before .before .before .before .before .loop .inv .goes) (c .before .before .before .before .before .before .before .before .before .before .before .before .before .loop-test .taken)) (c .before .before .before .before .before .before .before .before .before .before .before .before .kind-at .ensures)) (c .before .before .before .before .before .before .before .before .before .before .before .if1 .left)) (c .before .before .before .before .before .before .before .before .before .is-of .ensures ∙ ap (isOf _) (c .before .before .before .before .before .before .before .before .before .before .number-at .ensures)) (not-false _ (c .before .before .before .before .before .before .before .before .if2 .left))) _ _ (c .before .before .before .before .before .before .put-comma .ensures)) _ _ (c .before .before .write-param .ensures); long = c .before .before .write-param .kept .1 .1 .1 .0 ∙ c .before .before .before .before .before .before .put-comma .kept .0 ∙ c .before .before .before .before .before .before .before .before .before .before .before .before .before .before .loop .inv .long }
 
 same-length-3 : tie.Need-same-length-3 Inv-loop μ-loop
 same-length-3 c = c .before .loop .inv .long

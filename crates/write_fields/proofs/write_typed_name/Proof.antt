@@ -6,7 +6,7 @@ use Rattle.write_fields.proofs.write_typed_name.Statement.{statement}
 use Rattle.write_fields.proofs.write_typed_name.Tie as tie
 
 returns : tie.Need-returns
-returns c = last _ _ (kept _ _ _ (kept _ _ _ (typed-name-is _ _ _ _ _) _ _ (c .before .before .before .before .before .before .before .before .before .before .before .write-type .ensures)) _ _ (c .before .before .before .before .before .before .put .ensures)) _ _ (c .before .before .put-token .ensures)
+returns c = last _ _ (kept _ _ _ (kept _ _ _ (typed-name-is _ _ _ _ _) _ _ (c .before .before .before .before .before .before .before .before .before .before .before .write-outer-type .ensures)) _ _ (c .before .before .before .before .before .before .put .ensures)) _ _ (c .before .before .put-token .ensures)
 
 pub write-typed-name-spec : {M : Type 1} → statement M
 write-typed-name-spec =

@@ -1,11 +1,11 @@
--- `reader::rest_of` meets its contract.
+-- `steps::table::start_of` meets its contract.
 use native.Mathlib.Omega.{arith}
 use borrow.Author.Needs.{needs}
 use borrow.Author.Tests.{lt-ltb, le-ltb}
 use Rattle.steps.specs.Into.{restAt}
 use Rattle.ast.specs.Records.{width}
-use Rattle.reader.proofs.rest_of.Statement.{statement}
-use Rattle.reader.proofs.rest_of.Tie as tie
+use Rattle.steps.proofs.table.start_of.Statement.{statement}
+use Rattle.steps.proofs.table.start_of.Tie as tie
 
 returns : tie.Need-returns
 unfolding restAt width
@@ -15,5 +15,5 @@ returns-2 : tie.Need-returns-2
 unfolding restAt width
 returns-2 c = (rw (le-ltb _ _ (c .if1 .left)), omega arith)
 
-pub rest-of-spec : {M : Type 1} → statement M
-rest-of-spec = tie.close (tie.spec (λ c. search needs) returns returns-2)
+pub start-of-spec : {M : Type 1} → statement M
+start-of-spec = tie.close (tie.spec (λ c. search needs) returns returns-2)

@@ -1,13 +1,12 @@
--- `printer::clear` meets its contract. The invariant: what is still to be wiped is what was to be wiped at the start.
+-- `cursor::clear` meets its contract. The invariant: what is still to be wiped is what was to be wiped at the start.
 use mathlib.Core.Path.{_≡_, refl, sym, _∙_}
 use Prim.Native.Nat.{_≤_, _-_}
 use native.Mathlib.Omega.{arith}
 use borrow.Author.Needs.{needs}
 use lib.ListN.{length, length-set}
-use Rattle.steps.specs.Into.{wiped}
-use Rattle.steps.proofs.Cells.{wipe-step, wipe-done}
-use Rattle.printer.proofs.clear.Statement.{statement}
-use Rattle.printer.proofs.clear.Tie as tie
+use Rattle.cursor.proofs.Bytes.{wiped, wipe-step, wipe-done}
+use Rattle.cursor.proofs.clear.Statement.{statement}
+use Rattle.cursor.proofs.clear.Tie as tie
 
 abbrev Inv-loop : tie.InvT-loop
 Inv-loop bytes₀ from i₀ bytes i = (i ≤ length bytes) × (length bytes ≡ length bytes₀) × (wiped i bytes ≡ wiped from bytes₀)
