@@ -104,7 +104,7 @@ fn parse_list_value(
     Parsed::On(state)
 }
 
-// The elements up to the closing bracket, and that.
+// The elements up to the closing bracket, and that. An element of one token, the usual case, is read here: no call, no state copied.
 fn parse_elements(
     lut: &[u8; 768],
     text: &[u8],
@@ -122,6 +122,12 @@ fn parse_elements(
         let found = over.skip_all(lut, text, false);
         if found.kind == token::kind::RIGHT_BRACKET {
             return found.take(lut, text);
+        }
+        let leaf = leaf_value(found.kind);
+        if leaf != 0 {
+            let taken = found.advance(lut, text);
+            state = taken.put_leaf(rest, leaf, parent);
+            continue;
         }
         let read = parse_value(lut, text, found, depth, parent, rest);
         let Parsed::On(behind) = read else {

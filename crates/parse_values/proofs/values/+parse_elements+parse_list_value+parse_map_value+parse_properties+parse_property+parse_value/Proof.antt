@@ -15,7 +15,7 @@ use Rattle.parse_values.proofs.ContainerForms.{list-is, map-is, propert
 use Rattle.steps.proofs.Bytes.{expect-falls, opened-by, quiet-left, still-left, take-falls}
 use Rattle.steps.proofs.LoopForms.{closes, stays}
 use Rattle.parse_values.proofs.Bytes.{property-falls, value-falls}
-use Rattle.parse_values.proofs.ListForms.{both-left, elements-turn, properties-turn}
+use Rattle.parse_values.proofs.ListForms.{both-left, elements-turn, leaf-element, properties-turn}
 use borrow.Fn.Kinds.{In}
 use borrow.Fn.PlainCycle.{Measures, is, falls, and}
 use Rattle.parse_values.proofs.values.parse_elements.Reads as parse-elements
@@ -36,6 +36,7 @@ use Rattle.parse_values.proofs.values.+parse_elements+parse_list_value+
 use Rattle.parse_values.proofs.values.parse_value.Reads as parse-value
 use Rattle.parse_values.proofs.values.parse_value.Kinds as parse-value-kinds
 use Rattle.parse_values.proofs.values.+parse_elements+parse_list_value+parse_map_value+parse_properties+parse_property+parse_value.Lts-parse_value as parse-value-lts
+use Rattle.steps.proofs.state.State.advance.Reads as advance-reads
 use Rattle.steps.proofs.state.State.expect.Reads as expect-reads
 use Rattle.steps.proofs.state.State.refuse.Reads as refuse-reads
 use Rattle.steps.proofs.state.State.skip_all.Reads as skip-all-reads
@@ -104,7 +105,7 @@ abbrev parse-value-below : ℕ → In 3 parse-value-kinds.ps
 parse-value-below t = and 3 parse-value-kinds.ps (falls 3 parse-value-kinds.ps _<_ μ-parse-value t) parse-value.Pre
 
 abbrev parse-elements-calls : ℕ → parse-elements-lts.Claims
-parse-elements-calls t = (skip-all-reads.Asked, skip-all-reads.Learnt, take-reads.Asked, take-reads.Learnt, parse-value-below t, parse-value.Post)
+parse-elements-calls t = (skip-all-reads.Asked, skip-all-reads.Learnt, take-reads.Asked, take-reads.Learnt, leaf-value-reads.Asked, leaf-value-reads.Learnt, advance-reads.Asked, advance-reads.Learnt, put-leaf-reads.Asked, put-leaf-reads.Learnt, parse-value-below t, parse-value.Post)
 
 abbrev parse-list-value-calls : ℕ → parse-list-value-lts.Claims
 parse-list-value-calls t = (open-reads.Asked, open-reads.Learnt, parse-elements-below t, parse-elements.Post, put-node-reads.Asked, put-node-reads.Learnt)
@@ -149,17 +150,26 @@ module _ (t : ℕ) where
   parse-elements-returns : parse-elements-lts.Need-returns (parse-elements-calls t) (parse-elements-at t) parse-elements.Post parse-elements-Inv-loop parse-elements-μ-loop
   parse-elements-returns c = λ u. last _ _ _ _ _ (closes _ _ _ _ _ (elements-turn _ _ (value-falls _ _ _ _) _ _ _ _ _ _ (c .before .before .before .before .before .loop .inv .0 _) (c .before .before .before .before .skip-all .ensures) (c .before .before .before .skip-all2 .ensures)) (c .before .if1 .taken)) (c .take .ensures _ _)
 
-  parse-elements-parse-value-requires : parse-elements-lts.Need-parse-value-requires (parse-elements-calls t) (parse-elements-at t) parse-elements.Post parse-elements-Inv-loop parse-elements-μ-loop
-  parse-elements-parse-value-requires c κs = (omega (arith, c .before .before .before .before .before .before .before .before .pre .0, c .before .before .before .before .before .loop .inv .2, both-left _ _ _ _ (c .before .before .before .before .skip-all .ensures) (c .before .before .before .skip-all2 .ensures)), c .before .before .before .before .before .before .before .before .pre .1)
-
-  parse-elements-returns-2 : parse-elements-lts.Need-returns-2 (parse-elements-calls t) (parse-elements-at t) parse-elements.Post parse-elements-Inv-loop parse-elements-μ-loop
-  parse-elements-returns-2 c = λ u. off _ _ _ (stays _ _ _ _ _ (elements-turn _ _ (value-falls _ _ _ _) _ _ _ _ _ _ (c .before .before .before .before .before .before .before .before .before .before .loop .inv .0 _) (c .before .before .before .before .before .before .before .before .before .skip-all .ensures) (c .before .before .before .before .before .before .before .before .skip-all2 .ensures)) (c .before .before .before .before .before .before .if1 .left)) _ _ _ _ _ (c .before .before .before .before .parse-value .ensures _) (c .enum-told .given .1) _ _
+  parse-elements-advance-requires : parse-elements-lts.Need-advance-requires (parse-elements-calls t) (parse-elements-at t) parse-elements.Post parse-elements-Inv-loop parse-elements-μ-loop
+  parse-elements-advance-requires c κs = c .before .before .before .before .before .before .before .before .before .pre .1
 
   parse-elements-loop-less : parse-elements-lts.Need-loop-less (parse-elements-calls t) (parse-elements-at t) parse-elements.Post parse-elements-Inv-loop parse-elements-μ-loop
-  parse-elements-loop-less c = omega (arith, both-left _ _ _ _ (c .before .before .before .before .before .before .before .before .before .before .skip-all .ensures) (c .before .before .before .before .before .before .before .before .before .skip-all2 .ensures), quiet-left _ _ (value-falls _ _ _ _) _ _ _ _ _ (c .before .before .before .before .before .parse-value .ensures) (c .before .read .given .1))
+  parse-elements-loop-less c = omega (arith, both-left _ _ _ _ (c .before .before .before .before .before .before .before .before .before .before .skip-all .ensures) (c .before .before .before .before .before .before .before .before .before .skip-all2 .ensures), quiet-left _ _ (value-falls _ _ _ _) _ _ _ _ _ (leaf-element _ (c .before .before .before .before .before .before .before .before .before .before .before .before .before .before .args .depth) _ _ _ _ _ _ _ _ (c .before .before .before .before .before .before .leaf-value .ensures) (c .before .before .before .before .before .if2 .taken) (c .before .before .before .before .advance .ensures) (c .before .before .put-leaf .ensures)) refl)
 
   parse-elements-loop-again : parse-elements-lts.Need-loop-again (parse-elements-calls t) (parse-elements-at t) parse-elements.Post parse-elements-Inv-loop parse-elements-μ-loop
-  parse-elements-loop-again c = (λ u. on _ _ _ (stays _ _ _ _ _ (elements-turn _ _ (value-falls _ _ _ _) _ _ _ _ _ _ (c .before .before .before .before .before .before .before .before .before .before .before .loop .inv .0 _) (c .before .before .before .before .before .before .before .before .before .before .skip-all .ensures) (c .before .before .before .before .before .before .before .before .before .skip-all2 .ensures)) (c .before .before .before .before .before .before .before .if1 .left)) _ _ _ _ (c .before .before .before .before .before .parse-value .ensures _) (c .before .read .given .1), c .before .before .before .before .before .parse-value .kept .1 .1 .1 .1 .1 .0 ∙ c .before .before .before .before .before .before .before .before .before .before .before .loop .inv .1, omega (arith, c .before .before .before .before .before .before .before .before .before .before .before .loop .inv .2, both-left _ _ _ _ (c .before .before .before .before .before .before .before .before .before .before .skip-all .ensures) (c .before .before .before .before .before .before .before .before .before .skip-all2 .ensures), quiet-left _ _ (value-falls _ _ _ _) _ _ _ _ _ (c .before .before .before .before .before .parse-value .ensures) (c .before .read .given .1)))
+  parse-elements-loop-again c = (λ u. on _ _ _ (stays _ _ _ _ _ (elements-turn _ _ (value-falls _ _ _ _) _ _ _ _ _ _ (c .before .before .before .before .before .before .before .before .before .before .before .loop .inv .0 _) (c .before .before .before .before .before .before .before .before .before .before .skip-all .ensures) (c .before .before .before .before .before .before .before .before .before .skip-all2 .ensures)) (c .before .before .before .before .before .before .before .if1 .left)) _ _ _ _ (leaf-element _ (c .before .before .before .before .before .before .before .before .before .before .before .before .before .before .args .depth) _ _ _ _ _ _ _ _ (c .before .before .before .before .before .before .leaf-value .ensures) (c .before .before .before .before .before .if2 .taken) (c .before .before .before .before .advance .ensures) (c .before .before .put-leaf .ensures) _) refl, c .before .before .put-leaf .kept .1 .0 ∙ c .before .before .before .before .before .before .before .before .before .before .before .loop .inv .1, omega (arith, c .before .before .before .before .before .before .before .before .before .before .before .loop .inv .2, both-left _ _ _ _ (c .before .before .before .before .before .before .before .before .before .before .skip-all .ensures) (c .before .before .before .before .before .before .before .before .before .skip-all2 .ensures), quiet-left _ _ (value-falls _ _ _ _) _ _ _ _ _ (leaf-element _ (c .before .before .before .before .before .before .before .before .before .before .before .before .before .before .args .depth) _ _ _ _ _ _ _ _ (c .before .before .before .before .before .before .leaf-value .ensures) (c .before .before .before .before .before .if2 .taken) (c .before .before .before .before .advance .ensures) (c .before .before .put-leaf .ensures)) refl))
+
+  parse-elements-parse-value-requires : parse-elements-lts.Need-parse-value-requires (parse-elements-calls t) (parse-elements-at t) parse-elements.Post parse-elements-Inv-loop parse-elements-μ-loop
+  parse-elements-parse-value-requires c κs = (omega (arith, c .before .before .before .before .before .before .before .before .before .before .pre .0, c .before .before .before .before .before .before .before .loop .inv .2, both-left _ _ _ _ (c .before .before .before .before .before .before .skip-all .ensures) (c .before .before .before .before .before .skip-all2 .ensures)), c .before .before .before .before .before .before .before .before .before .before .pre .1)
+
+  parse-elements-returns-2 : parse-elements-lts.Need-returns-2 (parse-elements-calls t) (parse-elements-at t) parse-elements.Post parse-elements-Inv-loop parse-elements-μ-loop
+  parse-elements-returns-2 c = λ u. off _ _ _ (stays _ _ _ _ _ (elements-turn _ _ (value-falls _ _ _ _) _ _ _ _ _ _ (c .before .before .before .before .before .before .before .before .before .before .before .before .loop .inv .0 _) (c .before .before .before .before .before .before .before .before .before .before .before .skip-all .ensures) (c .before .before .before .before .before .before .before .before .before .before .skip-all2 .ensures)) (c .before .before .before .before .before .before .before .before .if1 .left)) _ _ _ _ _ (c .before .before .before .before .parse-value .ensures _) (c .enum-told .given .1) _ _
+
+  parse-elements-loop-less-2 : parse-elements-lts.Need-loop-less-2 (parse-elements-calls t) (parse-elements-at t) parse-elements.Post parse-elements-Inv-loop parse-elements-μ-loop
+  parse-elements-loop-less-2 c = omega (arith, both-left _ _ _ _ (c .before .before .before .before .before .before .before .before .before .before .before .before .skip-all .ensures) (c .before .before .before .before .before .before .before .before .before .before .before .skip-all2 .ensures), quiet-left _ _ (value-falls _ _ _ _) _ _ _ _ _ (c .before .before .before .before .before .parse-value .ensures) (c .before .read .given .1))
+
+  parse-elements-loop-again-2 : parse-elements-lts.Need-loop-again-2 (parse-elements-calls t) (parse-elements-at t) parse-elements.Post parse-elements-Inv-loop parse-elements-μ-loop
+  parse-elements-loop-again-2 c = (λ u. on _ _ _ (stays _ _ _ _ _ (elements-turn _ _ (value-falls _ _ _ _) _ _ _ _ _ _ (c .before .before .before .before .before .before .before .before .before .before .before .before .before .loop .inv .0 _) (c .before .before .before .before .before .before .before .before .before .before .before .before .skip-all .ensures) (c .before .before .before .before .before .before .before .before .before .before .before .skip-all2 .ensures)) (c .before .before .before .before .before .before .before .before .before .if1 .left)) _ _ _ _ (c .before .before .before .before .before .parse-value .ensures _) (c .before .read .given .1), c .before .before .before .before .before .parse-value .kept .1 .1 .1 .1 .1 .0 ∙ c .before .before .before .before .before .before .before .before .before .before .before .before .before .loop .inv .1, omega (arith, c .before .before .before .before .before .before .before .before .before .before .before .before .before .loop .inv .2, both-left _ _ _ _ (c .before .before .before .before .before .before .before .before .before .before .before .before .skip-all .ensures) (c .before .before .before .before .before .before .before .before .before .before .before .skip-all2 .ensures), quiet-left _ _ (value-falls _ _ _ _) _ _ _ _ _ (c .before .before .before .before .before .parse-value .ensures) (c .before .read .given .1)))
 
   parse-list-value-parse-elements-requires : parse-list-value-lts.Need-parse-elements-requires (parse-list-value-calls t) (parse-list-value-at t) parse-list-value.Post
   parse-list-value-parse-elements-requires c κs = (omega (arith, c .before .before .before .before .pre .0, opened-by (c .before .before .before .before .args .text .now) _ _ (c .before .«open» .ensures)), c .before .before .before .before .pre .1)
@@ -260,7 +270,7 @@ module _ (t : ℕ) where
 pub +parse-elements+parse-list-value+parse-map-value+parse-properties+parse-property+parse-value-spec : {M : Type 1} → statement M
 +parse-elements+parse-list-value+parse-map-value+parse-properties+parse-property+parse-value-spec =
     close μ-parse-elements μ-parse-list-value μ-parse-map-value μ-parse-properties μ-parse-property μ-parse-value
-    (λ t. parse-elements-lts.spec (parse-elements-calls t) (parse-elements-at t) parse-elements.Post parse-elements-Inv-loop parse-elements-μ-loop (parse-elements-loop-holds t) (parse-elements-skip-all-requires t) (parse-elements-skip-all-requires-2 t) (parse-elements-take-requires t) (λ c. search needs) (parse-elements-returns t) (parse-elements-parse-value-requires t) (λ c. search needs) (λ c. search needs) (λ c. search needs) (parse-elements-returns-2 t) (parse-elements-loop-less t) (parse-elements-loop-again t))
+    (λ t. parse-elements-lts.spec (parse-elements-calls t) (parse-elements-at t) parse-elements.Post parse-elements-Inv-loop parse-elements-μ-loop (parse-elements-loop-holds t) (parse-elements-skip-all-requires t) (parse-elements-skip-all-requires-2 t) (parse-elements-take-requires t) (λ c. search needs) (parse-elements-returns t) (λ c κs. search needs) (parse-elements-advance-requires t) (λ c κs. search needs) (parse-elements-loop-less t) (parse-elements-loop-again t) (parse-elements-parse-value-requires t) (λ c. search needs) (λ c. search needs) (λ c. search needs) (parse-elements-returns-2 t) (parse-elements-loop-less-2 t) (parse-elements-loop-again-2 t))
     (λ t. parse-list-value-lts.spec (parse-list-value-calls t) (parse-list-value-at t) parse-list-value.Post (λ c κs. search needs) (parse-list-value-parse-elements-requires t) (λ c. search needs) (λ c. search needs) (λ c. search needs) (parse-list-value-returns t) (λ c κs. search needs) (λ c. search needs) (parse-list-value-returns-2 t))
     (λ t. parse-map-value-lts.spec (parse-map-value-calls t) (parse-map-value-at t) parse-map-value.Post (λ c κs. search needs) (parse-map-value-parse-properties-requires t) (λ c. search needs) (λ c. search needs) (λ c. search needs) (parse-map-value-returns t) (λ c κs. search needs) (λ c. search needs) (parse-map-value-returns-2 t))
     (λ t. parse-properties-lts.spec (parse-properties-calls t) (parse-properties-at t) parse-properties.Post parse-properties-Inv-loop parse-properties-μ-loop (parse-properties-loop-holds t) (parse-properties-skip-all-requires t) (parse-properties-skip-all-requires-2 t) (parse-properties-take-requires t) (λ c. search needs) (parse-properties-returns t) (parse-properties-parse-property-requires t) (λ c. search needs) (λ c. search needs) (λ c. search needs) (parse-properties-returns-2 t) (parse-properties-loop-less t) (parse-properties-loop-again t))
