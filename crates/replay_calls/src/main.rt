@@ -1,17 +1,14 @@
 // Makes lists of readings and printings of each text of the list on standard input, by `file::run` and one by one, and compares the file, its space and all that was lent.
 // The lists of a text are the first call, the first two, and so on, so that what each call leaves is seen.
 //
-// The list is that of replay_nodes, whose src/main.rt says what it holds. Space, tables and output are full of sevens at first.
+// The crate replay says what the list holds. Space, tables and output are full of sevens at first.
 // Then it makes each list again: a file once printed, whose fields are numbered, must stay.
-use libc::STDIN_FILENO;
-use libc::STDOUT_FILENO;
+use replay::COMMENTS;
+use replay::NODES;
+use replay::SPACE;
 use writer::Printed;
 ghost use Prim.Native.Nat.{_+_, _≤_};
 ghost use lib.ListN.{length};
-ghost use Rattle.io.specs.Counts.{Counts};
-
-// Longer than each text and each print of the list.
-const SPACE: usize = 66560;
 
 // How many requests are made of a text.
 const CALLS: usize = 12;
@@ -23,11 +20,6 @@ const PRINTING: u32 = 1;
 
 // More than is there.
 const ALL: u32 = 4294967295;
-
-// The kinds of two records, as the list's first byte of each.
-const FIELD: u8 = ast::kind::FIELD as u8;
-
-const ID: u8 = ast::kind::FIELD_ID as u8;
 
 // A text's number in the list, and whether its fields are numbered.
 struct Case {
@@ -68,81 +60,22 @@ struct Tally {
     differing: u32,
 }
 
-fn wide(byte: u8) -> u32
-    ensures { λ r. ⌜ r ≤ 255 ⌝ }
-{
-    byte as u32
-}
-
-// The next number of the list.
-fn read_number() -> u32 {
-    let mut bytes = [0u8; 4];
-    io::read_full(STDIN_FILENO, &mut bytes);
-    wide(bytes[0]) + wide(bytes[1]) * 256 + wide(bytes[2]) * 65536 + wide(bytes[3]) * 16777216
-}
-
-// The kind of the next record of the list.
-fn read_kind() -> u8 {
-    let mut record = [0u8; 36];
-    io::read_full(STDIN_FILENO, &mut record);
-    record[0]
-}
-
-// Passes over so many records of the list.
-fn pass_records(count: u32) {
-    for _ in 0..count {
-        read_kind();
-    }
-}
-
-// Whether each field among the next node records of the list has an id, which directly follows it.
-fn are_numbered(nodes: u32) -> bool {
-    let mut numbered = true;
-    let mut last: u8 = 0;
-    for _ in 0..nodes {
-        let kind = read_kind();
-        if last == FIELD {
-            if kind != ID {
-                numbered = false;
-            }
-        }
-        last = kind;
-    }
-    numbered
-}
-
-// Reads the next part of the list, its length and its bytes, to the start of a space; answers the length, 0 if the space is too short.
-fn read_part(space: &mut [u8]) -> usize
-    ensures { λ r. ⌜ Counts r (now (space .exit)) ⌝ }
-{
-    let length = read_number() as usize;
-    if space.len() < length {
-        return 0;
-    }
-    io::read_full(STDIN_FILENO, &mut space[..length])
-}
-
 // Passes over what the list has for a text; whether it is accepted, and its fields are numbered.
 fn pass_answer() -> bool {
-    let number = read_number();
-    read_number();
-    read_number();
+    let number = replay::read_number();
+    replay::read_number();
+    replay::read_number();
     if number != 0 {
         return false;
     }
-    let nodes = read_number();
-    let comments = read_number();
-    let numbered = are_numbered(nodes);
-    pass_records(comments);
-    let mut space: [u8; SPACE] = [0; SPACE];
-    read_part(&mut space);
-    read_part(&mut space);
-    read_part(&mut space);
+    let nodes = replay::read_number();
+    let comments = replay::read_number();
+    let numbered = replay::are_numbered(nodes);
+    replay::pass_records(comments);
+    replay::pass_part();
+    replay::pass_part();
+    replay::pass_part();
     numbered
-}
-
-fn more(n: u32) -> u32 {
-    if n < 4294967295 { n + 1 } else { n }
 }
 
 fn less(n: u32) -> u32 {
@@ -184,8 +117,8 @@ fn short(length: usize) -> u32 {
 
 // What a printing of a text takes; if it is refused, some numbers of each.
 fn needs_of(text: &[u8], indent: u32) -> Needs {
-    let mut nodes: [u32; 9005] = [7; 9005];
-    let mut comments: [u32; 1804] = [7; 1804];
+    let mut nodes: [u32; NODES] = [7; NODES];
+    let mut comments: [u32; COMMENTS] = [7; COMMENTS];
     let mut out: [u8; SPACE] = [7; SPACE];
     match printer::print(text, indent, &mut nodes, &mut comments, &mut out) {
         Printed::Accepted {
@@ -304,7 +237,7 @@ fn keep(space: &mut [u8], out: &[u8], printed: Printed, steps: Steps) -> Steps {
         return Steps {
             length: steps.length,
             accepted: steps.accepted,
-            refused: more(steps.refused),
+            refused: replay::more(steps.refused),
             kept: steps.kept,
             same: steps.same,
         };
@@ -312,7 +245,7 @@ fn keep(space: &mut [u8], out: &[u8], printed: Printed, steps: Steps) -> Steps {
     if space.len() < bytes {
         return Steps {
             length: steps.length,
-            accepted: more(steps.accepted),
+            accepted: replay::more(steps.accepted),
             refused: steps.refused,
             kept: steps.kept,
             same: steps.same,
@@ -321,9 +254,9 @@ fn keep(space: &mut [u8], out: &[u8], printed: Printed, steps: Steps) -> Steps {
     lay(space, out, bytes);
     Steps {
         length: bytes,
-        accepted: more(steps.accepted),
+        accepted: replay::more(steps.accepted),
         refused: steps.refused,
-        kept: more(steps.kept),
+        kept: replay::more(steps.kept),
         same: steps.same,
     }
 }
@@ -411,18 +344,6 @@ fn fill(space: &mut [u8], text: &[u8]) {
     }
 }
 
-fn same_bytes(a: &[u8], b: &[u8]) -> bool {
-    if a.len() != b.len() {
-        return false;
-    }
-    for k in 0..a.len() {
-        if a[k] != b[k] {
-            return false;
-        }
-    }
-    true
-}
-
 fn same_numbers(a: &[u32], b: &[u32]) -> bool {
     if a.len() != b.len() {
         return false;
@@ -481,7 +402,7 @@ impl Tally {
         self.accepted = plus(self.accepted, steps.accepted);
         self.refused = plus(self.refused, steps.refused);
         if !steps.same {
-            self.differing = more(self.differing);
+            self.differing = replay::more(self.differing);
         }
         self
     }
@@ -489,7 +410,7 @@ impl Tally {
     // With a file that stays, or does not.
     fn stayed(mut self, same: bool) -> Tally {
         if !same {
-            self.altered = more(self.altered);
+            self.altered = replay::more(self.altered);
         }
         self
     }
@@ -497,8 +418,8 @@ impl Tally {
 
 // Whether the calls by `file::run`, made again, leave the file, which is that in the other space.
 fn stays(space: &mut [u8], other: &[u8], length: usize, number: u32, requests: &[u32]) -> bool {
-    let mut nodes: [u32; 9005] = [7; 9005];
-    let mut comments: [u32; 1804] = [7; 1804];
+    let mut nodes: [u32; NODES] = [7; NODES];
+    let mut comments: [u32; COMMENTS] = [7; COMMENTS];
     let mut out: [u8; SPACE] = [7; SPACE];
     let again = file::run(
         space,
@@ -512,7 +433,7 @@ fn stays(space: &mut [u8], other: &[u8], length: usize, number: u32, requests: &
     if again != length {
         return false;
     }
-    same_bytes(space, other)
+    replay::same_bytes(space, other)
 }
 
 // Whether a printing was kept, of a text whose fields are numbered.
@@ -535,7 +456,7 @@ fn same_lent(
     if !same_numbers(comments, other_comments) {
         return false;
     }
-    same_bytes(out, other_out)
+    replay::same_bytes(out, other_out)
 }
 
 // Makes the calls of a text so long in two spaces, by `file::run` and one by one, and compares.
@@ -546,8 +467,8 @@ fn compare_in(
     number: u32,
     requests: &[u32],
 ) -> Steps {
-    let mut nodes: [u32; 9005] = [7; 9005];
-    let mut comments: [u32; 1804] = [7; 1804];
+    let mut nodes: [u32; NODES] = [7; NODES];
+    let mut comments: [u32; COMMENTS] = [7; COMMENTS];
     let mut out: [u8; SPACE] = [7; SPACE];
     let length = file::run(
         space,
@@ -558,8 +479,8 @@ fn compare_in(
         &mut comments,
         &mut out,
     );
-    let mut spare_nodes: [u32; 9005] = [7; 9005];
-    let mut spare_comments: [u32; 1804] = [7; 1804];
+    let mut spare_nodes: [u32; NODES] = [7; NODES];
+    let mut spare_comments: [u32; COMMENTS] = [7; COMMENTS];
     let mut spare_out: [u8; SPACE] = [7; SPACE];
     let steps = make_calls(
         spare,
@@ -581,7 +502,7 @@ fn compare_in(
     steps
         .compared(same)
         .compared(length == steps.length)
-        .compared(same_bytes(space, spare))
+        .compared(replay::same_bytes(space, spare))
 }
 
 // Makes a list of calls of a text, compares, and makes them again if the file must stay.
@@ -632,7 +553,7 @@ fn compare_text(text: &[u8], case: Case, tally: Tally) -> Tally {
 
 // Makes the calls of the next text of the list.
 fn compare_next(space: &mut [u8], number: u32, tally: Tally) -> Tally {
-    let length = read_part(space);
+    let length = replay::read_part(space);
     let numbered = pass_answer();
     compare_text(&space[..length], Case { number, numbered }, tally)
 }
@@ -645,13 +566,6 @@ fn has_more(now: Tally, before: Tally) -> bool {
     now.altered != before.altered
 }
 
-// Writes that a text differs; the first is 0.
-fn write_differing(number: u32) {
-    io::write_all(STDOUT_FILENO, b"text ");
-    io::print_decimal(STDOUT_FILENO, number as u64);
-    io::write_all(STDOUT_FILENO, b" differs\n");
-}
-
 // Compares all texts.
 fn compare(texts: u32) -> Tally {
     let mut space: [u8; SPACE] = [0; SPACE];
@@ -659,26 +573,20 @@ fn compare(texts: u32) -> Tally {
     for i in 0..texts {
         let now = compare_next(&mut space, i, tally);
         if has_more(now, tally) {
-            write_differing(i);
+            replay::write_differing(i);
         }
         tally = now;
     }
     tally
 }
 
-// Writes a number and what it counts.
-fn write_count(number: u32, what: &[u8]) {
-    io::print_decimal(STDOUT_FILENO, number as u64);
-    io::write_all(STDOUT_FILENO, what);
-}
-
 fn main() {
-    let texts = read_number();
+    let texts = replay::read_number();
     let tally = compare(texts);
-    write_count(texts, b" texts, ");
-    write_count(tally.calls, b" calls; printings: ");
-    write_count(tally.accepted, b" accepted, ");
-    write_count(tally.refused, b" refused; ");
-    write_count(tally.altered, b" files altered after a print, ");
-    write_count(tally.differing, b" differences\n");
+    replay::write_count(texts, b" texts, ");
+    replay::write_count(tally.calls, b" calls; printings: ");
+    replay::write_count(tally.accepted, b" accepted, ");
+    replay::write_count(tally.refused, b" refused; ");
+    replay::write_count(tally.altered, b" files altered after a print, ");
+    replay::write_count(tally.differing, b" differences\n");
 }

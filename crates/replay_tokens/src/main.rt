@@ -47,23 +47,6 @@ enum Outcome {
     Long,
 }
 
-fn wide(byte: u8) -> u32
-    ensures { λ r. ⌜ r ≤ 255 ⌝ }
-{
-    byte as u32
-}
-
-// The number at an offset.
-fn number(list: &[u8], at: usize) -> u32
-    requires { ⌜ at + 4 ≤ length (now list) ⌝ }
-{
-    let a = wide(list[at]);
-    let b = wide(list[at + 1]);
-    let c = wide(list[at + 2]);
-    let d = wide(list[at + 3]);
-    a + b * 256 + c * 65536 + d * 16777216
-}
-
 // The text at an offset.
 fn text_at(list: &[u8], at: usize) -> Read
     requires { ⌜ at ≤ length (now list) ⌝ }
@@ -73,7 +56,7 @@ fn text_at(list: &[u8], at: usize) -> Read
         return Read::Short;
     }
     let start = at + 4;
-    let size = number(list, at) as usize;
+    let size = replay::number(list, at) as usize;
     if list.len() - start < size {
         return Read::Short;
     }
@@ -81,9 +64,9 @@ fn text_at(list: &[u8], at: usize) -> Read
     if list.len() - end < 12 {
         return Read::Short;
     }
-    let verdict = number(list, end);
-    let place = number(list, end + 4);
-    let count = number(list, end + 8) as usize;
+    let verdict = replay::number(list, end);
+    let place = replay::number(list, end + 4);
+    let count = replay::number(list, end + 8) as usize;
     let rows = end + 12;
     if list.len() - rows < count * ROW {
         return Read::Short;
@@ -102,13 +85,13 @@ fn text_at(list: &[u8], at: usize) -> Read
 fn same_span(rows: &[u8], at: usize, span: Span) -> bool
     requires { ⌜ at + 12 ≤ length (now rows) ⌝ }
 {
-    if number(rows, at) != span.index {
+    if replay::number(rows, at) != span.index {
         return false;
     }
-    if number(rows, at + 4) != span.line {
+    if replay::number(rows, at + 4) != span.line {
         return false;
     }
-    number(rows, at + 8) == span.column
+    replay::number(rows, at + 8) == span.column
 }
 
 // Whether a token stands at an offset.
@@ -117,7 +100,7 @@ fn same_token(rows: &[u8], at: usize, token: ParserToken) -> bool
 {
     let kind = token.token;
     let loc = token.loc;
-    if number(rows, at) != kind.code() {
+    if replay::number(rows, at) != kind.code() {
         return false;
     }
     if !same_span(rows, at + 4, loc.start) {
@@ -212,20 +195,6 @@ fn same_entry(list: &[u8], text: Text) -> bool
     )
 }
 
-// Writes that a text differs; the first is 0.
-fn write_differing(number: u32) {
-    io::write_all(STDOUT_FILENO, b"text ");
-    io::print_decimal(STDOUT_FILENO, number as u64);
-    io::write_all(STDOUT_FILENO, b" differs\n");
-}
-
-fn write_counts(texts: u32, differing: u32) {
-    io::print_decimal(STDOUT_FILENO, texts as u64);
-    io::write_all(STDOUT_FILENO, b" texts, ");
-    io::print_decimal(STDOUT_FILENO, differing as u64);
-    io::write_all(STDOUT_FILENO, b" differ\n");
-}
-
 // Compares all texts.
 fn compare(list: &[u8], texts: u32) -> Outcome
     requires { ⌜ 4 ≤ length (now list) ⌝ }
@@ -239,7 +208,7 @@ fn compare(list: &[u8], texts: u32) -> Outcome
             return Outcome::Short;
         };
         if !same_entry(list, text) {
-            write_differing(i);
+            replay::write_differing(i);
             differing += 1;
         }
         at = text.next;
@@ -257,11 +226,12 @@ fn compare_list(list: &[u8]) {
         io::write_all(STDOUT_FILENO, b"the list ends early\n");
         return;
     }
-    let texts = number(list, 0);
+    let texts = replay::number(list, 0);
     let outcome = compare(list, texts);
     match outcome {
         Outcome::Compared(differing) => {
-            write_counts(texts, differing);
+            replay::write_count(texts, b" texts, ");
+            replay::write_count(differing, b" differ\n");
         }
         Outcome::Short => {
             io::write_all(STDOUT_FILENO, b"the list ends early\n");

@@ -1,4 +1,4 @@
--- `replay_calls::read_part` meets its contract. What was read stays at the start of the space.
+-- `replay::read_part` meets its contract. What was read stays at the start of the space.
 use mathlib.Core.List.{List, _++_}
 use Prim.Native.Nat.{ℕ, _≤_}
 use native.Mathlib.Omega.{arith}
@@ -7,8 +7,8 @@ use lib.ListN.{length, drop, length-append}
 use lib.Seq.{length-take-le}
 use Rattle.io.specs.Counts.{Counts}
 use borrow.Author.Needs.{needs}
-use Rattle.replay_calls.proofs.read_part.Statement.{statement}
-use Rattle.replay_calls.proofs.read_part.Tie as tie
+use Rattle.replay.proofs.read_part.Statement.{statement}
+use Rattle.replay.proofs.read_part.Tie as tie
 
 counts-longer : (n : ℕ) (u v : List ℕ) → n ≤ length u → Counts n (u ++ v)
 counts-longer n u v h =

@@ -1,22 +1,23 @@
--- `replay_prints::zero_from` meets its contract.
+-- `replay::same_bytes` meets its contract.
 use Prim.Native.Nat.{_-_}
 use lib.ListN.{length}
 use borrow.Author.Needs.{needs}
-use Rattle.replay_prints.proofs.zero_from.Statement.{statement}
-use Rattle.replay_prints.proofs.zero_from.Tie as tie
+use Rattle.replay.proofs.same_bytes.Statement.{statement}
+use Rattle.replay.proofs.same_bytes.Tie as tie
 
 abbrev Inv-loop : tie.InvT-loop
-Inv-loop table start i₀ i = Unit
+Inv-loop a b k₀ k-end k = Unit
 
 abbrev μ-loop : tie.MeasureT-loop
-μ-loop table start i₀ i = length table - i
+μ-loop a b k₀ k-end k = length a - k
 
-pub zero-from-spec : {M : Type 1} → statement M
-zero-from-spec =
+pub same-bytes-spec : {M : Type 1} → statement M
+same-bytes-spec =
     tie.close
     (tie.spec
     Inv-loop
     μ-loop
+    (λ c. search needs)
     (λ c. search needs)
     (λ c. search needs)
     (λ c. search needs)

@@ -1,8 +1,8 @@
--- `replay_calls::pass_records` meets its contract.
+-- `replay::pass_records` meets its contract.
 use Prim.Native.Nat.{_-_}
 use borrow.Author.Needs.{needs}
-use Rattle.replay_calls.proofs.pass_records.Statement.{statement}
-use Rattle.replay_calls.proofs.pass_records.Tie as tie
+use Rattle.replay.proofs.pass_records.Statement.{statement}
+use Rattle.replay.proofs.pass_records.Tie as tie
 
 abbrev Inv-loop : tie.InvT-loop
 Inv-loop count counter₀ counter = Unit

@@ -1,9 +1,9 @@
--- `replay_nodes::zero_from` meets its contract.
+-- `replay::zero_from` meets its contract.
 use Prim.Native.Nat.{_-_}
 use lib.ListN.{length}
 use borrow.Author.Needs.{needs}
-use Rattle.replay_nodes.proofs.zero_from.Statement.{statement}
-use Rattle.replay_nodes.proofs.zero_from.Tie as tie
+use Rattle.replay.proofs.zero_from.Statement.{statement}
+use Rattle.replay.proofs.zero_from.Tie as tie
 
 abbrev Inv-loop : tie.InvT-loop
 Inv-loop table start i₀ i = Unit

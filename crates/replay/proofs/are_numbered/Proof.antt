@@ -1,8 +1,8 @@
--- `replay_calls::are_numbered` meets its contract.
+-- `replay::are_numbered` meets its contract.
 use Prim.Native.Nat.{_-_}
 use borrow.Author.Needs.{needs}
-use Rattle.replay_calls.proofs.are_numbered.Statement.{statement}
-use Rattle.replay_calls.proofs.are_numbered.Tie as tie
+use Rattle.replay.proofs.are_numbered.Statement.{statement}
+use Rattle.replay.proofs.are_numbered.Tie as tie
 
 abbrev Inv-loop : tie.InvT-loop
 Inv-loop nodes numbered₀ last₀ counter₀ numbered last counter = Unit

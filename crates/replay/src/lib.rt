@@ -1,0 +1,142 @@
+// What the replay programs share: they read the kept answers, a list on standard input, compare, and write what differs.
+//
+// A list holds little-endian numbers of 4 bytes. That of answers (oracle/answers.list) has the count of texts, then for each text:
+//     its length, and its bytes
+//     the refusal's number (0: accepted), place and length
+//     if accepted, the counts of nodes and of comments, and nine numbers for each node, then for each comment;
+//     three prints, each its length and its bytes
+use libc::STDIN_FILENO;
+use libc::STDOUT_FILENO;
+ghost use Prim.Native.Nat.{_+_, _≤_};
+ghost use lib.ListN.{length};
+ghost use Rattle.io.specs.Counts.{Counts};
+
+// Longer than each text and each print of the list.
+pub const SPACE: usize = 66560;
+
+// Longer than both tables of each text of the list, and no whole number of records.
+pub const NODES: usize = 9005;
+
+pub const COMMENTS: usize = 1804;
+
+// The kinds of two records, as the list's first byte of each.
+const FIELD: u8 = ast::kind::FIELD as u8;
+
+const ID: u8 = ast::kind::FIELD_ID as u8;
+
+fn wide(byte: u8) -> u32
+    ensures { λ r. ⌜ r ≤ 255 ⌝ }
+{
+    byte as u32
+}
+
+// The number at an offset.
+pub fn number(list: &[u8], at: usize) -> u32
+    requires { ⌜ at + 4 ≤ length (now list) ⌝ }
+{
+    let a = wide(list[at]);
+    let b = wide(list[at + 1]);
+    let c = wide(list[at + 2]);
+    let d = wide(list[at + 3]);
+    a + b * 256 + c * 65536 + d * 16777216
+}
+
+// The next number of the list.
+pub fn read_number() -> u32 {
+    let mut bytes = [0u8; 4];
+    io::read_full(STDIN_FILENO, &mut bytes);
+    number(&bytes, 0)
+}
+
+// The kind of the next record of the list.
+fn read_kind() -> u8 {
+    let mut record = [0u8; 36];
+    io::read_full(STDIN_FILENO, &mut record);
+    record[0]
+}
+
+// Passes over so many records of the list.
+pub fn pass_records(count: u32) {
+    for _ in 0..count {
+        read_kind();
+    }
+}
+
+// Whether each field among the next node records of the list has an id, which directly follows it.
+pub fn are_numbered(nodes: u32) -> bool {
+    let mut numbered = true;
+    let mut last: u8 = 0;
+    for _ in 0..nodes {
+        let kind = read_kind();
+        if last == FIELD {
+            if kind != ID {
+                numbered = false;
+            }
+        }
+        last = kind;
+    }
+    numbered
+}
+
+// Reads the next part of the list, its length and its bytes, to the start of a space; answers the length, 0 if the space is too short.
+pub fn read_part(space: &mut [u8]) -> usize
+    ensures { λ r. ⌜ Counts r (now (space .exit)) ⌝ }
+{
+    let length = read_number() as usize;
+    if space.len() < length {
+        return 0;
+    }
+    io::read_full(STDIN_FILENO, &mut space[..length])
+}
+
+// Passes over the next part of the list.
+pub fn pass_part() {
+    let mut bytes = [0u8; 4096];
+    let mut left = read_number() as usize;
+    while 4096 < left {
+        io::read_full(STDIN_FILENO, &mut bytes);
+        left -= 4096;
+    }
+    io::read_full(STDIN_FILENO, &mut bytes[..left]);
+}
+
+// One more, or as much as a number holds.
+pub fn more(n: u32) -> u32 {
+    if n < 4294967295 { n + 1 } else { n }
+}
+
+// Whether a table is 0 from an index on.
+pub fn zero_from(table: &[u32], start: usize) -> bool {
+    let mut i = start;
+    while i < table.len() {
+        if table[i] != 0 {
+            return false;
+        }
+        i += 1;
+    }
+    true
+}
+
+pub fn same_bytes(a: &[u8], b: &[u8]) -> bool {
+    if a.len() != b.len() {
+        return false;
+    }
+    for k in 0..a.len() {
+        if a[k] != b[k] {
+            return false;
+        }
+    }
+    true
+}
+
+// Writes that a text differs; the first is 0.
+pub fn write_differing(number: u32) {
+    io::write_all(STDOUT_FILENO, b"text ");
+    write_count(number, b" differs\n");
+}
+
+// Writes a number and what it counts.
+pub fn write_count(number: u32, what: &[u8]) {
+    io::print_decimal(STDOUT_FILENO, number as u64);
+    io::write_all(STDOUT_FILENO, what);
+}
