@@ -6,3 +6,4 @@ pub mod Lists
 pub mod Drop
 pub mod Numbered
 pub mod Largest
+pub mod Column

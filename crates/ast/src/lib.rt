@@ -1,4 +1,5 @@
 // The tree that is read, its nodes and its records.
+pub mod column;
 pub mod flag;
 pub mod kind;
 

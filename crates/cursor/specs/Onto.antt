@@ -8,6 +8,7 @@ use Prim.Native.String.{String}
 use lib.Dec.{eqb, ltb, leb}
 use lib.ListN.{length, take, drop, getD}
 use Rattle.token.specs.Regex.{bytes as ascii}
+use Rattle.ast.specs.Column as C
 use Rattle.ast.specs.Largest.{bump}
 use Rattle.ast.specs.Records.{width, noParent}
 use Rattle.cursor.specs.declared.Cursor.{Cursor}
@@ -35,13 +36,13 @@ Moves m p r = (o : List ℕ) → reached r o ≡ m p o
 
 -- a number of a record
 unfoldable pub numberAt : List ℕ → ℕ → ℕ → ℕ
-numberAt t r k = cond (leb 9 k) 0 (getD t (r * width + k) 0)
+numberAt t r k = cond (leb width k) 0 (getD t (r * width + k) 0)
 
 unfoldable pub kindAt : List ℕ → ℕ → ℕ → ℕ
 kindAt t count r = cond (ltb r count) (numberAt t r 0) 0
 
 unfoldable pub parentAt : List ℕ → ℕ → ℕ → ℕ
-parentAt t count r = cond (ltb r count) (numberAt t r 1) noParent
+parentAt t count r = cond (ltb r count) (numberAt t r C.Parent) noParent
 
 unfoldable pub passNode : W
 passNode p o = reached (record { node = bump (p .node); comment = p .comment; length = p .length }) o
@@ -66,7 +67,7 @@ unfoldable pub partOut : List ℕ → ℕ → ℕ → W
 partOut text a b p o = cond (ltb (length text) b) (reached p o) (cond (ltb b a) (reached p o) (putOut (take (b - a) (drop a text)) p o))
 
 unfoldable pub tokenOut : List ℕ → List ℕ → W
-tokenOut text nodes p o = then (partOut text (numberAt nodes (p .node) 3) (numberAt nodes (p .node) 6) p o) passNode
+tokenOut text nodes p o = then (partOut text (numberAt nodes (p .node) C.Start) (numberAt nodes (p .node) C.End) p o) passNode
 
 unfoldable pub spacesOut : ℕ → W
 spacesOut zero = stay
@@ -75,7 +76,7 @@ spacesOut (suc n) = sayOut " " ⨟ spacesOut n
 -- the comment ahead, on a line of its own
 unfoldable pub commentOut : List ℕ → List ℕ → ℕ → W
 commentOut text comments indent p o =
-    then (spacesOut indent p o) (partOut text (numberAt comments (p .comment) 3) (numberAt comments (p .comment) 6) ⨟ (sayOut "\n" ⨟ passComment))
+    then (spacesOut indent p o) (partOut text (numberAt comments (p .comment) C.Start) (numberAt comments (p .comment) C.End) ⨟ (sayOut "\n" ⨟ passComment))
 
 unfoldable pub commentsFrom : List ℕ → List ℕ → ℕ → ℕ → ℕ → ℕ → W
 commentsFrom text comments total owner indent zero p o = reached p o

@@ -4,10 +4,12 @@ ghost use mathlib.Core.Path.{_≡_};
 ghost use mathlib.Core.List.{_++_};
 ghost use Prim.Native.Nat.{_-_, _≤_};
 ghost use lib.ListN.{length, take, drop, replicate};
+ghost use Rattle.ast.specs.Column as C;
 ghost use Rattle.ast.specs.Records.{room};
 ghost use Rattle.cursor.specs.Onto.{Writes, Moves, numberAt, kindAt, parentAt, passNode, passComment, putOut, partOut, tokenOut, spacesOut, commentOut, commentsOut, passComments, below, passBelow};
 use ast::NO_PARENT;
 use ast::WIDTH;
+use ast::column;
 
 // The next node record, the next comment record, and how many bytes were printed; one more than the output holds where they did not fit.
 pub struct Cursor {
@@ -45,7 +47,7 @@ pub fn parent_at(table: &[u32], row: u32) -> u32
 {
     let at = row as usize * WIDTH;
     if at + WIDTH <= table.len() {
-        table[at + 1]
+        table[at + column::PARENT]
     } else {
         NO_PARENT
     }
@@ -59,18 +61,18 @@ struct Part {
 
 // The part that a record tells of; 0 for a number that the table does not hold.
 fn part_at(table: &[u32], row: u32) -> Part
-    ensures { λ r. ⌜ (r .start ≡ numberAt (now (table .entry)) row 3) × (r .end ≡ numberAt (now (table .entry)) row 6) ⌝ }
+    ensures { λ r. ⌜ (r .start ≡ numberAt (now (table .entry)) row C.Start) × (r .end ≡ numberAt (now (table .entry)) row C.End) ⌝ }
 {
     let at = row as usize * WIDTH;
     if table.len() < at + WIDTH {
         return Part {
-            start: number_at(table, row, 3),
-            end: number_at(table, row, 6),
+            start: number_at(table, row, column::START),
+            end: number_at(table, row, column::END),
         };
     }
     Part {
-        start: table[at + 3],
-        end: table[at + 6],
+        start: table[at + column::START],
+        end: table[at + column::END],
     }
 }
 

@@ -7,7 +7,7 @@ use mathlib.Core.List.{List, []}
 use Prim.Native.Nat.{ℕ}
 use Rattle.token.specs.Breaks.{Bytes}
 use Rattle.lexer.specs.Outcome as O
-use Rattle.lexer.specs.Check.{limit}
+use Rattle.lexer.specs.Limit.{limit}
 use Rattle.lexer.specs.Location.{opening}
 use Rattle.lexer.specs.Tokens.{tokens}
 use Rattle.ast.specs.Ast.{Definition}
@@ -35,7 +35,6 @@ printed-same indent xs ds e =
     sym (print-forget indent xs) ∙ ap (printed indent) e ∙ print-forget indent (maps dropParams ds) ∙ print-drop indent ds
 
 pub print-fixed : (indent : ℕ) (t : List ℕ) (ds : List Definition) → Premise indent t ds → Fixed indent ds
-unfolding limit
 print-fixed indent t ds h =
     let b = accepts-reads indent t ds (h .accepted) in
     let a = print-again t (h .bytes) ds (b .reads) (h .numbered) indent (h .fits) in

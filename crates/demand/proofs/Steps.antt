@@ -13,7 +13,7 @@ use lib.ListN.{length}
 use lib.Seq.{take-append-seam}
 use Rattle.lexer.specs.Outcome as O
 use Rattle.lexer.specs.Outcome.{Outcome, refused}
-use Rattle.lexer.specs.Check.{limit}
+use Rattle.lexer.specs.Limit.{limit}
 use Rattle.ast.specs.Ast.{Definition}
 use Rattle.ast.specs.Records.{nodeRows, notes, room}
 use Rattle.parser.specs.Read as R
@@ -47,7 +47,6 @@ accepts-reads indent t ds e = go (ltb limit (length t)) (ltb widest indent) refl
 
 -- a text that is read is not too long
 short : (t : List ℕ) (ds : List Definition) → outcome t ≡ O.accepted ds → ltb limit (length t) ≡ false
-unfolding limit
 short t ds e = le-ltb 65536 (length t) (read-bounds t ds e .bytes)
 
 pub reads-accepts : (indent : ℕ) (t : List ℕ) (ds : List Definition) → outcome t ≡ O.accepted ds → ltb widest indent ≡ false → Accepts indent t ds

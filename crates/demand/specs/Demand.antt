@@ -7,7 +7,7 @@ use lib.ListN.{length}
 use Rattle.token.specs.Breaks.{Bytes}
 use Rattle.lexer.specs.Outcome as O
 use Rattle.lexer.specs.Outcome.{Outcome}
-use Rattle.lexer.specs.Check.{limit}
+use Rattle.lexer.specs.Limit.{limit}
 use Rattle.ast.specs.Ast.{Definition}
 use Rattle.ast.specs.Lists.{All}
 use Rattle.ast.specs.Numbered.{Numbered}

@@ -32,7 +32,8 @@ use Rattle.utf8.specs.Utf8.{illFormed, WellFormed}
 use Rattle.lexer.specs.Cuts.{Cuts, end, stuck, cut, cuts, unrecognized}
 use Rattle.lexer.specs.Location.{pass, between, opening}
 use Rattle.lexer.specs.Tokens.{Lexeme, lexeme, skipped, lexemes, tokens}
-use Rattle.lexer.specs.Check.{limit, verdict, checked}
+use Rattle.lexer.specs.Check.{verdict, checked}
+use Rattle.lexer.specs.Limit.{limit}
 use Rattle.utf8.proofs.Utf8Laws.{Starts, well-left, well-right}
 use Rattle.lexer.proofs.CutLaws.{hit-fits, cuts-nil, cuts-miss, cuts-hit}
 use Rattle.lexer.proofs.CheckLaws.{fine-fits}
@@ -151,7 +152,7 @@ fine-both none none e = (refl, refl)
 
 -- what the check finds fine is well formed and cut to its end
 pub fine-means : (t : List ℕ) {ns : List ℕ} → checked t ≡ accepted ns → (length t ≤ 65536) × WellFormed t × (unrecognized (cuts t) 0 ≡ none)
-unfolding checked limit
+unfolding checked
 fine-means t e =
     let h : length t ≤ 65536 = fine-fits t e in
     let f = fine-both (illFormed t) (unrecognized (cuts t) 0) (rw (le-ltb 65536 (length t) h) at e) in

@@ -15,24 +15,25 @@ use Rattle.utf8.specs.Found.{found}
 use Rattle.utf8.proofs.FoundLaws.{found-at, found-none}
 use Rattle.utf8.specs.Utf8.{illFormed}
 use Rattle.lexer.specs.Cuts.{cuts, unrecognized}
-use Rattle.lexer.specs.Check.{limit, verdict, checked, refusal}
+use Rattle.lexer.specs.Check.{verdict, checked, refusal}
+use Rattle.lexer.specs.Limit.{limit}
 
 module _ (t : List ℕ) where
   pub too-long : 65536 < length t → checked t ≡ refused 20 0 0
-  unfolding checked limit
+  unfolding checked
   too-long h = rw (lt-ltb 65536 (length t) h)
 
   module _ (h : length t ≤ 65536) where
     pub ill : (p : ℕ) → found (illFormed t) ≡ At p → checked t ≡ refused 21 p 0
-    unfolding checked limit verdict
+    unfolding checked verdict
     ill p e = rw (le-ltb 65536 (length t) h, found-at _ p e)
 
     pub unknown : (p : ℕ) → found (illFormed t) ≡ Nowhere → found (unrecognized (cuts t) 0) ≡ At p → checked t ≡ refused 22 p 0
-    unfolding checked limit verdict
+    unfolding checked verdict
     unknown p e f = rw (le-ltb 65536 (length t) h, found-none _ e, found-at _ p f)
 
     pub fine : found (illFormed t) ≡ Nowhere → found (unrecognized (cuts t) 0) ≡ Nowhere → checked t ≡ accepted []
-    unfolding checked limit verdict
+    unfolding checked verdict
     fine e f = rw (le-ltb 65536 (length t) h, found-none _ e, found-none _ f)
 
 -- ---- what is not refused for its length is not longer
@@ -42,11 +43,11 @@ within true n v r l e h = absurd (h (sym e))
 within false n v r l e h = ltb-false 65536 n l
 
 pub fine-fits : (t : List ℕ) {ns : List ℕ} → checked t ≡ accepted ns → length t ≤ 65536
-unfolding checked limit
+unfolding checked
 fine-fits t {ns} e = within (ltb 65536 (length t)) (length t) _ (accepted ns) refl e (λ f. let z : _≡_ {A = ℕ} 0 1 = cc in omega arith)
 
 pub unknown-fits : (t : List ℕ) (p : ℕ) → checked t ≡ refused 22 p 0 → length t ≤ 65536
-unfolding checked limit
+unfolding checked
 unknown-fits t p e = within (ltb 65536 (length t)) (length t) _ (refused 22 p 0) refl e (λ f. let z : _≡_ {A = ℕ} 0 1 = cc in omega arith)
 
 -- ---- what the code's answer says of the text

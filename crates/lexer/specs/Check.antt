@@ -6,15 +6,12 @@ use mathlib.Core.Option.{Option, some, none}
 use lib.Dec.{ltb}
 use lib.ListN.{length}
 use Rattle.utf8.specs.Utf8.{illFormed}
+use Rattle.lexer.specs.Limit.{limit}
 use Rattle.lexer.specs.Error.{TextTooLong, NotUtf8, NoToken}
 use Rattle.lexer.specs.Outcome.{Outcome, accepted, refused}
 use Rattle.lexer.specs.Cuts.{cuts, unrecognized}
 use Rattle.lexer.specs.declared.Checked.{Checked}
 use Rattle.lexer.specs.declared.Checked.the-variants.{Fine, TooLong, IllFormed, Unrecognized}
-
--- the longest text that is read
-unfoldable pub limit : ℕ
-limit = 65536
 
 -- the bytes come before the tokens
 unfoldable pub verdict : Option ℕ → Option ℕ → Outcome (List ℕ)

@@ -1,3 +1,4 @@
+pub mod Limit
 pub mod Error
 pub mod Outcome
 pub mod Cuts

@@ -6,6 +6,7 @@ use lib.Dec.{eqb}
 use Rattle.token.specs.Code.{is}
 use Rattle.token.specs.declared.Token.{Token}
 use Rattle.token.specs.declared.Token.the-variants as T
+use Rattle.lexer.specs.Limit.{limit}
 use Rattle.lexer.specs.declared.location.Lexer.{Lexer}
 use Rattle.lexer.specs.declared.location.Span.{Span}
 use Rattle.lexer.specs.declared.location.LOC.{LOC}
@@ -40,4 +41,4 @@ opening = record { at = 0; line = 0; origin = 0 }
 pub record Placed (s : Lexer) : Type 0 where
   pub lines : s .line ≤ s .at
   pub line-begun : s .origin ≤ s .at
-  pub below : s .at ≤ 65536
+  pub below : s .at ≤ limit

@@ -8,6 +8,7 @@ ghost use Prim.Native.Nat.{_<_, _≤_};
 ghost use lib.ListN.{length, drop};
 ghost use Rattle.token.specs.Tables.{tables};
 ghost use Rattle.utf8.specs.Found.{found};
+ghost use Rattle.lexer.specs.Limit.{limit};
 ghost use Rattle.lexer.specs.Cuts.{cuts, unrecognized};
 ghost use Rattle.lexer.specs.Location.{Placed};
 ghost use Rattle.lexer.specs.Tokens.{skipped, next};
@@ -49,7 +50,7 @@ pub fn skipped(token: Token) -> bool
 
 // The token of one byte that stands at the lexer's offset, by the byte's class.
 fn mark(k: u8, from: Lexer) -> Next
-    requires { ⌜ Placed from × (from .at < 65536) ⌝ }
+    requires { ⌜ Placed from × (from .at < limit) ⌝ }
     ensures { λ r. ⌜ r ≡ marked (opened k) from ⌝ }
 {
     let Scan::Hit(token, _) = scan::mark_of(k) else {
@@ -62,7 +63,7 @@ fn mark(k: u8, from: Lexer) -> Next
 
 // The next token of the text behind the lexer's offset: rico's create_parser_token.
 pub fn next_token(lut: &[u8; 768], text: &[u8], lexer: Lexer) -> Next
-    requires { ⌜ (now lut ≡ tables) × (length (now text) ≤ 65536) × Placed lexer ⌝ }
+    requires { ⌜ (now lut ≡ tables) × (length (now text) ≤ limit) × Placed lexer ⌝ }
     ensures { λ r. ⌜ r ≡ next (now (text .entry)) lexer ⌝ }
 {
     let mut from = lexer;

@@ -4,6 +4,7 @@ ghost use mathlib.Core.Path.{_≡_};
 ghost use Prim.Native.Nat.{_+_, _<_, _≤_};
 ghost use lib.ListN.{length};
 ghost use Rattle.token.specs.declared.Token.the-variants as T;
+ghost use Rattle.lexer.specs.Limit.{limit};
 ghost use Rattle.lexer.specs.Location.{Placed, behind, pass, spanOf, between, opening};
 
 // A place: line and column from 1, byte offset from 0.
@@ -76,7 +77,7 @@ impl Lexer {
 
 // The lexer behind one byte, which ends a line or not.
 pub fn behind(lexer: Lexer, ends: bool) -> Lexer
-    requires { ⌜ Placed lexer × (lexer .at < 65536) ⌝ }
+    requires { ⌜ Placed lexer × (lexer .at < limit) ⌝ }
     ensures { λ r. ⌜ r ≡ behind ends lexer ⌝ }
 {
     let at = lexer.at + 1;
@@ -96,7 +97,7 @@ pub fn behind(lexer: Lexer, ends: bool) -> Lexer
 
 // The lexer behind a block comment: each `\n` in it ends a line.
 fn pass_block(comment: &[u8], lexer: Lexer) -> Lexer
-    requires { ⌜ Placed lexer × (lexer .at + length (now comment) ≤ 65536) ⌝ }
+    requires { ⌜ Placed lexer × (lexer .at + length (now comment) ≤ limit) ⌝ }
     ensures { λ r. ⌜ r ≡ pass (now (comment .entry)) T.BlockComment lexer ⌝ }
 {
     let mut now = lexer;
@@ -110,7 +111,7 @@ fn pass_block(comment: &[u8], lexer: Lexer) -> Lexer
 
 // The lexer behind a lexeme.
 pub fn pass_lexeme(token: Token, bytes: &[u8], lexer: Lexer) -> Lexer
-    requires { ⌜ Placed lexer × (0 < length (now bytes)) × (lexer .at + length (now bytes) ≤ 65536) ⌝ }
+    requires { ⌜ Placed lexer × (0 < length (now bytes)) × (lexer .at + length (now bytes) ≤ limit) ⌝ }
     ensures { λ r. ⌜ r ≡ pass (now (bytes .entry)) token lexer ⌝ }
 {
     let code = token.code();

@@ -14,7 +14,8 @@ use Rattle.utf8.specs.Utf8.{illFormed}
 use Rattle.utf8.specs.Found.{found}
 use Rattle.lexer.specs.Outcome.{Outcome, refused, numbers}
 use Rattle.lexer.specs.Cuts.{cuts, unrecognized}
-use Rattle.lexer.specs.Check.{limit, verdict, checked, refusal}
+use Rattle.lexer.specs.Check.{verdict, checked, refusal}
+use Rattle.lexer.specs.Limit.{limit}
 use Rattle.lexer.specs.declared.Checked.{Checked}
 use Rattle.parser.specs.declared.Answer.{Answer}
 use Rattle.parser.specs.Read as R
@@ -32,7 +33,7 @@ laid-same l l′ ns e n k = k ∙ ap (λ (x : List ℕ). laid x l) (sym n ∙ ap
 -- the place of a refusal by the check lies in a text that is not too long
 place-by : (t : List ℕ) (n p m : ℕ) (x : Bool) (y z : Option ℕ) → ltb 65536 (length t) ≡ x → illFormed t ≡ y → unrecognized (cuts t) 0 ≡ z
     → checked t ≡ refused n p m → p ≤ 65536
-unfolding checked limit verdict found
+unfolding checked verdict found
 place-by t n p m true y z h f g e = let q : 0 ≡ p = cc (rw h at e) in omega arith
 place-by t n p m false (some q) z h f g e =
     let d : _≡_ {A = Outcome (List ℕ)} (refused 21 q 0) (refused n p m) = rw (h, f) at e in

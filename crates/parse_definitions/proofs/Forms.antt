@@ -25,7 +25,7 @@ scope-is text b p st t u = refl
 
 pub typed-name-is : (text : List ℕ) (e : ℕ) (b : ℕ) (p : ℕ) (st : State) (t u : List ℕ) → typedNameIn text e b p st t u ≡
     (typeIn text 32 b p ⨟ nameIn text e b p) st t u
-unfolding typedNameIn nesting
+unfolding typedNameIn
 typed-name-is text e b p st t u = refl
 
 pub extends-is : (text : List ℕ) (b : ℕ) (p : ℕ) (st : State) (t u : List ℕ) → extendsIn text b p st t u ≡
@@ -97,7 +97,7 @@ pub const-is : (text : List ℕ) (st : State) (t u : List ℕ) → constIn text 
     after (beginIn text st t u)
     (typedNameIn text 13 (st .next) (st .next)
     ⨟ (expectIn text 45 2 ⨟ (valueIn text 32 (st .next) (st .next) ⨟ (ownRecordIn st 4 ⨟ skipCommentsIn text true))))
-unfolding constIn defineIn nesting
+unfolding constIn defineIn
 const-is text st t u =
     after-assoc (beginIn text st t u) _ _
     ∙ after-same (beginIn text st t u) _ _ λ st₁ t u.

@@ -173,7 +173,7 @@ module _ (text : List ℕ) (short : length text ≤ 65536) where
         (finish-at 3 0 (place w) (st .loc .start) [] (waitingOf s) h (h₃ .at) (ap (λ (l : LOC). l .start) (h₁ .first .placed))))))
 
     const-m : Meant (λ d. At text (suc i) (st .next) noParent fr (f ⊕ single (definitionTree d))) (constIn text st t u) (parseConst s)
-    unfolding constIn parseConst defineIn ownRecordIn code owns opened typedNameIn parseType parseValue D.nesting definitionTree both single
+    unfolding constIn parseConst defineIn ownRecordIn code owns opened typedNameIn parseType parseValue definitionTree both single
     const-m =
         grouped _ _ _
         (begin-m ks _ _ e h λ w st₁ t₁ u₁ s₁ h₁.
@@ -190,7 +190,7 @@ module _ (text : List ℕ) (short : length text ≤ 65536) where
         went (fewer (omega arith) h₆))))))))
 
     typedef-m : Meant (λ d. At text (suc i) (st .next) noParent fr (f ⊕ single (definitionTree d))) (typedefIn text st t u) (parseTypedef s)
-    unfolding typedefIn parseTypedef defineIn ownRecordIn nodeIn code owns opened typedNameIn parseType D.nesting definitionTree both single
+    unfolding typedefIn parseTypedef defineIn ownRecordIn nodeIn code owns opened typedNameIn parseType definitionTree both single
     typedef-m =
         begin-m ks _ _ e h λ w st₁ t₁ u₁ s₁ h₁.
         grouped _ _ _

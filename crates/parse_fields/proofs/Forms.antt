@@ -42,12 +42,12 @@ field-name-is text b p st t u = refl
 
 pub default-is : (text : List ℕ) (b : ℕ) (p : ℕ) (st : State) (t u : List ℕ) → defaultIn text b p st t u ≡
     cond (eqb (st .kind) 45) (valueIn text 32 b p (advanced text st) t u) (done st t u)
-unfolding defaultIn nesting
+unfolding defaultIn
 default-is text b p st t u = refl
 
 pub field-head-is : (text : List ℕ) (b : ℕ) (p : ℕ) (st : State) (t u : List ℕ) → fieldHeadIn text b p st t u ≡
     after (typeIn text 32 b p (skipRequired text st) t u) (fieldNameIn text b p)
-unfolding fieldHeadIn nesting
+unfolding fieldHeadIn
 field-head-is text b p st t u = refl
 
 pub field-tail-is : (text : List ℕ) (b : ℕ) (p : ℕ) (st : State) (t u : List ℕ) → fieldTailIn text b p st t u ≡

@@ -287,7 +287,7 @@ module _ (text : List ℕ) (short : length text ≤ 65536) where
 
   default-m : {i b p : ℕ} {fr : Frame} {f : Forest} {st : State} {t u : List ℕ} {s : St} → At text i b p fr f st t u s
       → Meant (λ o. At text i b p fr (f ⊕ perhaps valueTree o bare)) (defaultIn text b p st t u) (parseDefault s)
-  unfolding defaultIn parseDefault parseValue D.nesting code perhaps single
+  unfolding defaultIn parseDefault parseValue code perhaps single
   default-m {b = b} {p = p} {f = f} {s = s} h =
       one-m text short T.Equals _ _ s h
       (λ e. here-m {k = valueIn text 32 b p} (step-m text short (T.Equals ∷ []) s e h) λ x st₁ t₁ u₁ s₁ h₁.
@@ -296,7 +296,7 @@ module _ (text : List ℕ) (short : length text ≤ 65536) where
 
   pub field-m : (fl : ℕ) → fl ≤ 16 → {i b p : ℕ} {fr : Frame} {f : Forest} {st : State} {t u : List ℕ} {s : St} → At text (suc i) b p fr f st t u s
       → Meant (λ a. At text (suc i) b p fr (f ⊕ single (fieldTree fl a))) (fieldIn text fl b p st t u) (parseField s)
-  unfolding fieldIn parseField fieldHeadIn fieldTailIn parseType D.nesting nodeIn startAt owns opened fieldTree
+  unfolding fieldIn parseField fieldHeadIn fieldTailIn parseType nodeIn startAt owns opened fieldTree
   field-m fl small {b = b} {p = p} {f = f} {st = st} {t = t} {u = u} {s = s} h =
       let n = st .next in
       let o = own-at s h in

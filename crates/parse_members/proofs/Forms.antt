@@ -18,7 +18,7 @@ throws-is text b p st t u = refl
 
 pub return-type-is : (text : List ℕ) (b : ℕ) (p : ℕ) (st : State) (t u : List ℕ) → returnTypeIn text b p st t u ≡
     cond (eqb (st .kind) 15) (leafIn 18 b p (advanced text st) t u) (typeIn text 32 b p st t u)
-unfolding returnTypeIn nesting
+unfolding returnTypeIn
 return-type-is text b p st t u = refl
 
 pub function-head-is : (text : List ℕ) (b : ℕ) (p : ℕ) (st : State) (t u : List ℕ) → functionHeadIn text b p st t u ≡

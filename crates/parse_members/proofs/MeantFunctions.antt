@@ -171,7 +171,7 @@ module _ (text : List ℕ) (short : length text ≤ 65536) where
 
   return-type-m : {i b p : ℕ} {fr : Frame} {f : Forest} {st : State} {t u : List ℕ} {s : St} → At text i b p fr f st t u s
       → Meant (λ a. At text i b p fr (f ⊕ single (typeTree a))) (returnTypeIn text b p st t u) (parseReturnType s)
-  unfolding returnTypeIn parseReturnType parseType D.nesting code after
+  unfolding returnTypeIn parseReturnType parseType code after
   return-type-m {f = f} {s = s} h =
       one-m text short T.Void _ _ s h
       (λ e. last-m (leaf-m 18 (step-m text short (T.Void ∷ []) s e h)) λ tok st₁ t₁ u₁ s₁ h₁.

@@ -467,7 +467,7 @@ module _ (Holds : Lexeme → Type 0) where
   type-e (suc d) g = type-by-e (suc d) (containerType (fieldType d)) (container-type-e d (fieldType d) (λ s g. type-e d g)) g
 
   parse-type-e : {s : St} → GoodE s → Gives (EachType 32) (parseType s)
-  unfolding parseType D.nesting
+  unfolding parseType
   parse-type-e = type-e _
 
   -- ---- values
@@ -518,7 +518,7 @@ module _ (Holds : Lexeme → Type 0) where
   value-e (suc d) g = value-by-e (suc d) (containerValue (fieldValue d)) (container-value-e d (fieldValue d) (λ s g. value-e d g)) g
 
   parse-value-e : {s : St} → GoodE s → Gives (EachValue 32) (parseValue s)
-  unfolding parseValue D.nesting
+  unfolding parseValue
   parse-value-e = value-e _
 
   -- ---- annotations

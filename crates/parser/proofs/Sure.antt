@@ -344,7 +344,7 @@ module _ (Good : Token → List ℕ → Type 0) (Last : LOC → Type 0) where
   type-s (suc d) g = type-by-s (suc d) (containerType (fieldType d)) (container-type-s d (fieldType d) (λ s g. type-s d g)) g
 
   pub parse-type-s : {s : St} → GoodS s → Sure (WfType Good 32) (parseType s)
-  unfolding parseType nesting
+  unfolding parseType
   parse-type-s = type-s 32
 
   -- ---- values
@@ -396,7 +396,7 @@ module _ (Good : Token → List ℕ → Type 0) (Last : LOC → Type 0) where
   value-s (suc d) g = value-by-s (suc d) (containerValue (fieldValue d)) (container-value-s d (fieldValue d) (λ s g. value-s d g)) g
 
   pub parse-value-s : {s : St} → GoodS s → Sure (WfValue Good 32) (parseValue s)
-  unfolding parseValue nesting
+  unfolding parseValue
   parse-value-s = value-s 32
 
   -- ---- annotations

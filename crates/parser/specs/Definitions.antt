@@ -47,7 +47,7 @@ use Rattle.parser.specs.Types.{fieldType}
 use Rattle.parser.specs.Values.{fieldValue}
 
 -- up to 32 containers inside one another
-unfoldable pub nesting : ℕ
+abbrev pub nesting : ℕ
 nesting = 32
 
 unfoldable pub parseType : P FieldType

@@ -12,7 +12,7 @@ use Rattle.token.specs.declared.Scan.the-variants.{Miss, Hit}
 use Rattle.lexer.specs.declared.location.Lexer.{Lexer}
 use Rattle.lexer.specs.declared.location.Span.{Span}
 use Rattle.lexer.specs.Location.{behind, endsLine, pass, spanOf, opening}
-use Rattle.lexer.specs.Check.{limit}
+use Rattle.lexer.specs.Limit.{limit}
 
 -- kind and length of what a text starts with; a byte that starts no token is passed alone and ends no line
 unfoldable pub kindOf : Scan → Token

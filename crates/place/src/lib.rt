@@ -8,6 +8,7 @@ use token::Token;
 ghost use mathlib.Core.Path.{_≡_};
 ghost use Prim.Native.Nat.{_+_, _<_, _≤_};
 ghost use lib.ListN.{length};
+ghost use Rattle.lexer.specs.Limit.{limit};
 ghost use Rattle.token.specs.Tables.{tables};
 ghost use Rattle.token.specs.Scan.{scan};
 ghost use Rattle.token.specs.declared.Token.the-variants as T;
@@ -46,7 +47,7 @@ fn first(lut: &[u8; 768], text: &[u8], most: usize) -> Piece
 
 // The lexer behind the first token of the text that lies ahead, passing at most so many bytes.
 fn pass_first(lut: &[u8; 768], text: &[u8], most: usize, from: Lexer) -> Lexer
-    requires { ⌜ (now lut ≡ tables) × (0 < most) × (most ≤ length (now text)) × Placed from × (from .at + most ≤ 65536) ⌝ }
+    requires { ⌜ (now lut ≡ tables) × (0 < most) × (most ≤ length (now text)) × Placed from × (from .at + most ≤ limit) ⌝ }
     ensures { λ r. ⌜ r ≡ step (now (text .entry)) most from ⌝ }
 {
     let piece = first(lut, text, most);
@@ -57,7 +58,7 @@ fn pass_first(lut: &[u8; 768], text: &[u8], most: usize, from: Lexer) -> Lexer
 
 // The place at an offset, which may lie in a token.
 fn reached(lut: &[u8; 768], text: &[u8], place: usize) -> Span
-    requires { ⌜ (now lut ≡ tables) × (place ≤ length (now text)) × (place ≤ 65536) ⌝ }
+    requires { ⌜ (now lut ≡ tables) × (place ≤ length (now text)) × (place ≤ limit) ⌝ }
     ensures { λ r. ⌜ r ≡ spanOf (walk (now (text .entry)) T.Blank 0 place opening) ⌝ }
 {
     let mut from = Lexer::new();

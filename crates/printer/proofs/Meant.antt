@@ -15,7 +15,8 @@ use borrow.Author.Tests.{ltb-false, lt-ltb, le-ltb}
 use Rattle.lexer.specs.Outcome.{Outcome, accepted, refused}
 use Rattle.lexer.specs.Location.{between, opening as opened}
 use Rattle.lexer.specs.Tokens.{Lexeme}
-use Rattle.lexer.specs.Check.{checked, limit}
+use Rattle.lexer.specs.Check.{checked}
+use Rattle.lexer.specs.Limit.{limit}
 use Rattle.ast.specs.Lists.{All, anil, acons}
 use Rattle.ast.specs.Ast.{Definition}
 use Rattle.ast.specs.Tree.{Tree, node, Forest, bare, grown, each, definitionTree}
@@ -273,7 +274,7 @@ module _ (text : List ℕ) (indent : ℕ) (t u o : List ℕ) where
   outcome-given (refused n p l) e = rw e (refused-given n p l)
 
   pub print-means : all text indent t u o ≡ printing text indent t u o
-  unfolding all printing limit widest outcomeAt answer left written refusing
+  unfolding all printing outcomeAt answer left written refusing
   print-means = go (ltb 65536 (length text)) refl (ltb 8 indent) refl
     where
       go : (a : Bool) → ltb 65536 (length text) ≡ a → (b : Bool) → ltb 8 indent ≡ b → all text indent t u o ≡ printing text indent t u o

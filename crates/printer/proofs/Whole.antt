@@ -15,7 +15,7 @@ use Rattle.parser.specs.Read.{Reading, reading, said, told as read-told}
 use Rattle.steps.specs.Into.{restAt, wiped}
 use Rattle.steps.proofs.Cells.{wipe-all}
 use Rattle.lexer.specs.Outcome.{accepted, refused}
-use Rattle.lexer.specs.Check.{limit}
+use Rattle.lexer.specs.Limit.{limit}
 use Rattle.writer.specs.Write.{widest, Printing}
 use Rattle.cursor.specs.declared.Cursor.{Cursor}
 use Rattle.cursor.specs.Onto.{Reached, reached}
@@ -45,16 +45,16 @@ written-is text indent n c t u o o′ p r a b h k e f = f ∙ ap (λ (i : Reache
 
 module _ (text : List ℕ) (indent : ℕ) (t u o : List ℕ) where
   pub all-long : 65536 < length text → refusing 20 0 0 t u o ≡ all text indent t u o
-  unfolding all limit
+  unfolding all
   all-long h = rw (lt-ltb _ _ h)
 
   pub all-wide : length text ≤ 65536 → 8 < indent → refusing 26 0 0 t u o ≡ all text indent t u o
-  unfolding all limit widest
+  unfolding all
   all-wide h k = rw (le-ltb _ _ h, lt-ltb _ _ k)
 
   module _ (h : length text ≤ 65536) (k : indent ≤ 8) (a : Answer) (t₁ u₁ : List ℕ) (e : read-told a t₁ u₁ ≡ reading text t u) where
     all-read : byAnswer (said a) text indent t₁ u₁ o ≡ all text indent t u o
-    unfolding all limit widest byReading
+    unfolding all byReading
     all-read = ap (λ (r : Reading). byReading r text indent o) e ∙ rw (le-ltb _ _ h, le-ltb _ _ k)
 
     pub all-refused : (n p l : ℕ) → a ≡ A.Refused n p l → refusing n p l t₁ u₁ o ≡ all text indent t u o

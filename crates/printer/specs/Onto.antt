@@ -10,7 +10,7 @@ use Rattle.lexer.specs.Outcome.{Outcome, accepted, refused}
 use Rattle.ast.specs.Records.{room, cleared}
 use Rattle.parser.specs.Read.{Reading, reading}
 use Rattle.steps.specs.Into.{restAt, wiped}
-use Rattle.lexer.specs.Check.{limit}
+use Rattle.lexer.specs.Limit.{limit}
 use Rattle.writer.specs.Write.{widest, Printing}
 use Rattle.cursor.specs.declared.Cursor.{Cursor}
 use Rattle.cursor.specs.Onto.{Reached, reached}

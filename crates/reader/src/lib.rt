@@ -3,6 +3,7 @@ ghost use mathlib.Core.Path.{_≡_};
 ghost use mathlib.Core.List.{List};
 ghost use Prim.Native.Nat.{ℕ, _≤_};
 ghost use lib.ListN.{length};
+ghost use Rattle.lexer.specs.Limit.{limit};
 ghost use Rattle.parser.specs.Read.{reading, told};
 ghost use Rattle.steps.specs.Into.{Keeps, Lent, Reads, Still, shows};
 ghost use Rattle.reader.specs.Into.{restIn, overIn, betweenIn, documentIn, beginning, refusing, ended, refusingAt, fits, judged, unscanned, parsing};
@@ -186,7 +187,7 @@ fn judge(parsed: Parsed, len: usize, nodes: &mut [u32], comments: &mut [u32]) ->
 
 // 22 and the grammar, in one pass where the text is accepted: a text that passed 20 and 21.
 fn parse(text: &[u8], nodes: &mut [u32], comments: &mut [u32]) -> Answer
-    requires { ⌜ length (now text) ≤ 65536 ⌝ }
+    requires { ⌜ length (now text) ≤ limit ⌝ }
     ensures { λ r. ⌜ told r (now (nodes .exit)) (now (comments .exit)) ≡ parsing (now (text .entry)) (now (nodes .entry)) (now (comments .entry)) ⌝ }
 {
     let lut = lexer::table::LUT;

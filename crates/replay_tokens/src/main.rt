@@ -14,6 +14,7 @@ use libc::STDOUT_FILENO;
 ghost use mathlib.Core.Path.{_≡_};
 ghost use Prim.Native.Nat.{_+_, _≤_};
 ghost use lib.ListN.{length};
+ghost use Rattle.lexer.specs.Limit.{limit};
 ghost use Rattle.token.specs.Tables.{tables};
 ghost use Rattle.replay_tokens.specs.Inside.{Inside, Found};
 
@@ -125,7 +126,7 @@ fn same_end(next: Next, verdict: u32, place: u32) -> bool {
 
 // Whether the tokens of a text are those of the rows, and end as the verdict says.
 fn same_tokens(lut: &[u8; 768], text: &[u8], rows: &[u8], verdict: u32, place: u32) -> bool
-    requires { ⌜ (now lut ≡ tables) × (length (now text) ≤ 65536) ⌝ }
+    requires { ⌜ (now lut ≡ tables) × (length (now text) ≤ limit) ⌝ }
 {
     let mut from = Lexer::new();
     let mut at: usize = 0;
@@ -145,7 +146,7 @@ fn same_tokens(lut: &[u8; 768], text: &[u8], rows: &[u8], verdict: u32, place: u
 
 // The same with the table.
 fn same_cuts(text: &[u8], rows: &[u8], verdict: u32, place: u32) -> bool
-    requires { ⌜ length (now text) ≤ 65536 ⌝ }
+    requires { ⌜ length (now text) ≤ limit ⌝ }
 {
     let lut = lexer::table::LUT;
     same_tokens(&lut, text, rows, verdict, place)

@@ -8,6 +8,8 @@ use lib.Dec.{eqb, ltb, leb}
 use lib.ListN.{length, take, drop, set, replicate}
 use Rattle.token.specs.Kind as T
 use Rattle.lexer.specs.Error as E
+use Rattle.lexer.specs.Limit.{limit}
+use Rattle.ast.specs.Column as C
 use Rattle.ast.specs.Kind as K
 use Rattle.token.specs.Code.{code}
 use Rattle.token.specs.Tables.{tables}
@@ -27,7 +29,7 @@ use Rattle.steps.specs.declared.state.Parsed.the-variants.{On, Refused}
 -- what every reader is lent: the lexer's table, and a text that passed 20
 pub record Lent (lut text : List ℕ) : Type 0 where
   pub tabled : lut ≡ tables
-  pub short : length text ≤ 65536
+  pub short : length text ≤ limit
 
 -- the kind where no token is left
 abbrev pub noToken : ℕ
@@ -82,7 +84,7 @@ unfoldable pub put : ℕ → List ℕ → List ℕ → List ℕ
 put i r t = cond (leb (room t) i) t (take (i * width) t ++ (r ++ drop (i * width + width) t))
 
 unfoldable pub putParent : ℕ → ℕ → List ℕ → List ℕ
-putParent i p t = cond (leb (room t) i) t (set t (i * width + 1) p)
+putParent i p t = cond (leb (room t) i) t (set t (i * width + C.Parent) p)
 
 -- where record n starts in a table of so many numbers, and its rest from there on
 unfoldable pub restAt : ℕ → ℕ → ℕ
@@ -118,7 +120,7 @@ lexerAt e = record { at = e .index; line = e .line - 1; origin = e .index - (e .
 
 -- the token behind a place; none where the place is in no text
 unfoldable pub lookAt : List ℕ → Span → Next
-lookAt t e = let s = lexerAt e in cond (ltb 65536 (s .at)) N.End (cond (ltb (s .at) (s .line)) N.End (L.next t s))
+lookAt t e = let s = lexerAt e in cond (ltb limit (s .at)) N.End (cond (ltb (s .at) (s .line)) N.End (L.next t s))
 
 unfoldable pub aheadOf : Next → State → State
 aheadOf (N.On p s) st =

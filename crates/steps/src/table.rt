@@ -4,6 +4,7 @@ ghost use Prim.Native.Nat.{_≤_};
 ghost use lib.ListN.{length};
 ghost use Rattle.ast.specs.Records.{row};
 ghost use Rattle.steps.specs.Into.{sum, put, putParent, restAt, wiped};
+use ast::column;
 use lexer::location::LOC;
 
 // The sum of two counts; never past the largest number.
@@ -43,7 +44,7 @@ pub fn put_parent(table: &mut [u32], index: usize, parent: u32)
     if table.len() / ast::WIDTH <= index {
         return;
     }
-    table[index * ast::WIDTH + 1] = parent;
+    table[index * ast::WIDTH + column::PARENT] = parent;
 }
 
 // Where record `number` starts in a table of so many numbers; the end where it does not stand in it.

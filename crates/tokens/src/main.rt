@@ -10,6 +10,7 @@ use libc::STDOUT_FILENO;
 ghost use mathlib.Core.Path.{_≡_};
 ghost use Prim.Native.Nat.{_+_, _≤_};
 ghost use lib.ListN.{length};
+ghost use Rattle.lexer.specs.Limit.{limit};
 ghost use Rattle.token.specs.Tables.{tables};
 
 // Puts a byte at `at`, and answers the place behind it.
@@ -88,7 +89,7 @@ fn write_refusal(number: u32, place: usize) {
 
 // Writes the tokens of a text.
 fn write_tokens(lut: &[u8; 768], text: &[u8])
-    requires { ⌜ (now lut ≡ tables) × (length (now text) ≤ 65536) ⌝ }
+    requires { ⌜ (now lut ≡ tables) × (length (now text) ≤ limit) ⌝ }
 {
     let mut from = Lexer::new();
     loop {

@@ -4,6 +4,8 @@ use mathlib.Core.Bool.{true, false, cond}
 use mathlib.Core.List.{List}
 use Prim.Native.Nat.{ℕ, zero, suc, _+_}
 use lib.Dec.{eqb, ltb}
+use Rattle.parser.specs.Definitions.{nesting}
+use Rattle.ast.specs.Column as C
 use Rattle.ast.specs.Kind as K
 use Rattle.cursor.specs.Onto.{reached, W, then, _⨟_, numberAt, kindAt, passNode, sayOut, tokenOut, spacesOut, commentsOut}
 use Rattle.write_fields.specs.Onto.{valueOut, annotationsOut, assignedOut, typedNameOut, fieldOut, paramsOut}
@@ -29,8 +31,8 @@ functionOut text nodes count comments total indent p o =
     then (commentsOut text comments total (p .node) indent p o)
     (spacesOut indent
     ⨟ (passNode
-    ⨟ (onewayOut (numberAt nodes (p .node) 2)
-    ⨟ (typedNameOut text nodes count ⨟ functionTailOut text nodes count comments total (p .node) (numberAt nodes (p .node) 2)))))
+    ⨟ (onewayOut (numberAt nodes (p .node) C.Flags)
+    ⨟ (typedNameOut text nodes count ⨟ functionTailOut text nodes count comments total (p .node) (numberAt nodes (p .node) C.Flags)))))
 
 unfoldable pub memberOut : List ℕ → List ℕ → ℕ → List ℕ → ℕ → ℕ → W
 memberOut text nodes count comments total indent p o =
@@ -78,7 +80,7 @@ unfoldable pub namespaceOut : List ℕ → List ℕ → W
 namespaceOut text nodes = tokenOut text nodes ⨟ (sayOut " " ⨟ (tokenOut text nodes ⨟ sayOut "\n"))
 
 unfoldable pub constOut : List ℕ → List ℕ → ℕ → W
-constOut text nodes count = typedNameOut text nodes count ⨟ (sayOut " = " ⨟ (valueOut text nodes count 32 ⨟ sayOut "\n"))
+constOut text nodes count = typedNameOut text nodes count ⨟ (sayOut " = " ⨟ (valueOut text nodes count nesting ⨟ sayOut "\n"))
 
 unfoldable pub lineOut : List ℕ → List ℕ → ℕ → ℕ → W
 lineOut text nodes count k p o =

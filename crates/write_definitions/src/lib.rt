@@ -3,6 +3,7 @@ ghost use Rattle.ast.specs.Records.{room};
 ghost use Rattle.cursor.specs.Onto.{Writes};
 ghost use Rattle.write_definitions.specs.Onto.{throwsOut, onewayOut, functionTailOut, functionOut, memberOut, oneOut, membersFrom, bodyOut, extendsOut, keywordOut, namespaceOut, constOut, lineOut, blockOut, definitionOut, documentOut};
 use ast::WIDTH;
+use ast::column;
 use ast::flag;
 use cursor::Cursor;
 
@@ -72,7 +73,7 @@ fn write_function(
 {
     let noted = cursor::put_comments(text, comments, out, at, indent);
     let spaced = cursor::put_spaces(out, noted, indent);
-    let flags = cursor::number_at(nodes, at.node, 2);
+    let flags = cursor::number_at(nodes, at.node, column::FLAGS);
     let oneway = write_oneway(out, cursor::pass_node(spaced), flags);
     let named = write_fields::write_typed_name(text, nodes, out, oneway);
     write_function_tail(text, nodes, comments, out, named, at.node, flags)

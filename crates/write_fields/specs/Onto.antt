@@ -6,6 +6,8 @@ use Prim.Native.Nat.{ℕ, zero, suc}
 use Prim.Native.String.{String}
 use lib.Dec.{eqb, ltb}
 use Rattle.token.specs.Regex.{bytes as ascii}
+use Rattle.parser.specs.Definitions.{nesting}
+use Rattle.ast.specs.Column as C
 use Rattle.ast.specs.Kind as K
 use Rattle.cursor.specs.Onto.{reached, W, then, _⨟_, numberAt, kindAt, parentAt, passNode, stay, putOut, sayOut, tokenOut, spacesOut, commentsOut, passComments, passBelow}
 
@@ -82,18 +84,18 @@ unfoldable pub assignedOut : List ℕ → ℕ → ℕ → W → W
 assignedOut nodes count owner value p o = cond (hasValue nodes count owner (p .node)) ((sayOut " = " ⨟ value) p o) (reached p o)
 
 unfoldable pub typedNameOut : List ℕ → List ℕ → ℕ → W
-typedNameOut text nodes count = typeOut text nodes count 32 ⨟ (sayOut " " ⨟ tokenOut text nodes)
+typedNameOut text nodes count = typeOut text nodes count nesting ⨟ (sayOut " " ⨟ tokenOut text nodes)
 
 -- id, requiredness, type, name, default
 unfoldable pub fieldHeadOut : List ℕ → List ℕ → ℕ → ℕ → ℕ → W
 fieldHeadOut text nodes count owner f =
-    idOut text nodes count ⨟ (requiredOut f ⨟ (typedNameOut text nodes count ⨟ assignedOut nodes count owner (valueOut text nodes count 32)))
+    idOut text nodes count ⨟ (requiredOut f ⨟ (typedNameOut text nodes count ⨟ assignedOut nodes count owner (valueOut text nodes count nesting)))
 
 unfoldable pub fieldOut : List ℕ → List ℕ → ℕ → List ℕ → ℕ → ℕ → W
 fieldOut text nodes count comments total indent p o =
     then (commentsOut text comments total (p .node) indent p o)
     (spacesOut indent
-    ⨟ (passNode ⨟ (fieldHeadOut text nodes count (p .node) (numberAt nodes (p .node) 2) ⨟ (annotationsOut text nodes count (p .node) ⨟ sayOut ",\n"))))
+    ⨟ (passNode ⨟ (fieldHeadOut text nodes count (p .node) (numberAt nodes (p .node) C.Flags) ⨟ (annotationsOut text nodes count (p .node) ⨟ sayOut ",\n"))))
 
 unfoldable pub paramOut : List ℕ → List ℕ → ℕ → List ℕ → ℕ → W
 paramOut text nodes count comments total p o =
@@ -108,7 +110,7 @@ unfoldable pub paramsFrom : List ℕ → List ℕ → ℕ → List ℕ → ℕ �
 paramsFrom text nodes count comments total thrown first zero p o = reached p o
 paramsFrom text nodes count comments total thrown first (suc n) p o =
     cond (eqb (kindAt nodes count (p .node)) K.Field)
-    (cond (isOf thrown (numberAt nodes (p .node) 2))
+    (cond (isOf thrown (numberAt nodes (p .node) C.Flags))
     ((commaOut first ⨟ (paramOut text nodes count comments total ⨟ paramsFrom text nodes count comments total thrown false n)) p o)
     (reached p o))
     (reached p o)

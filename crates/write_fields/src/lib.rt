@@ -3,8 +3,10 @@ ghost use mathlib.Core.Path.{_≡_};
 ghost use mathlib.Core.Bool.{true};
 ghost use Rattle.ast.specs.Records.{room};
 ghost use Rattle.cursor.specs.Onto.{Writes, tokenOut};
+ghost use Rattle.parser.specs.Definitions.{nesting};
 ghost use Rattle.write_fields.specs.Onto.{containerOut, mapTypeOut, typeOut, commaOut, eachOut, propertyOut, bracketsOut, valueOut, annotationOut, annotationsOut, idOut, requiredOut, hasValue, assignedOut, typedNameOut, fieldHeadOut, fieldOut, paramOut, isOf, paramsOut};
 use ast::WIDTH;
+use ast::column;
 use ast::flag;
 use cursor::Cursor;
 use parser::NESTING;
@@ -258,7 +260,7 @@ fn has_value(nodes: &[u32], at: Cursor, owner: u32) -> bool
 
 // ` = ` and a value, if the owner has one
 fn write_default(text: &[u8], nodes: &[u32], out: &mut [u8], at: Cursor, owner: u32) -> Cursor
-    ensures { λ r. ⌜ Writes (assignedOut (now (nodes .entry)) (room (now (nodes .entry))) owner (valueOut (now (text .entry)) (now (nodes .entry)) (room (now (nodes .entry))) 32)) at r (now (out .entry)) (now (out .exit)) ⌝ }
+    ensures { λ r. ⌜ Writes (assignedOut (now (nodes .entry)) (room (now (nodes .entry))) owner (valueOut (now (text .entry)) (now (nodes .entry)) (room (now (nodes .entry))) nesting)) at r (now (out .entry)) (now (out .exit)) ⌝ }
 {
     if !has_value(nodes, at, owner) {
         return at;
@@ -286,7 +288,7 @@ pub fn write_initializer(
 
 // a type that stands in no container; most are one token
 fn write_outer_type(text: &[u8], nodes: &[u32], out: &mut [u8], at: Cursor) -> Cursor
-    ensures { λ r. ⌜ Writes (typeOut (now (text .entry)) (now (nodes .entry)) (room (now (nodes .entry))) 32) at r (now (out .entry)) (now (out .exit)) ⌝ }
+    ensures { λ r. ⌜ Writes (typeOut (now (text .entry)) (now (nodes .entry)) (room (now (nodes .entry))) nesting) at r (now (out .entry)) (now (out .exit)) ⌝ }
 {
     if cursor::kind_at(nodes, at.node) < ast::kind::LIST {
         return cursor::put_token(text, nodes, out, at);
@@ -333,7 +335,7 @@ pub fn write_field(
 {
     let noted = cursor::put_comments(text, comments, out, at, indent);
     let spaced = cursor::put_spaces(out, noted, indent);
-    let flags = cursor::number_at(nodes, at.node, 2);
+    let flags = cursor::number_at(nodes, at.node, column::FLAGS);
     let head = write_field_head(text, nodes, out, cursor::pass_node(spaced), at.node, flags);
     if cursor::parent_at(nodes, head.node) != at.node {
         return cursor::put(out, head, b",\n"); // no annotations
@@ -379,7 +381,7 @@ pub fn write_params(
         if cursor::kind_at(nodes, now.node) != ast::kind::FIELD {
             return now;
         }
-        if !is_of(thrown, cursor::number_at(nodes, now.node, 2)) {
+        if !is_of(thrown, cursor::number_at(nodes, now.node, column::FLAGS)) {
             return now;
         }
         let parted = put_comma(out, now, first);

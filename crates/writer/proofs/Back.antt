@@ -681,11 +681,11 @@ module _ (Good : Token → List ℕ → Type 0) where
   type-opens (wmap {k = k} h g i) r = opens-own typeStarts k (container-starts (kind k) (map-kinds (kind k) (h .kinds) .container)) _
 
   parse-type-rt : {t : FieldType} → WfType Good 32 t → (c : List Lexeme) (r : List Piece) → parseType (on c (writeType t r)) ≡ ok (forgetType t) (on c r)
-  unfolding parseType nesting
+  unfolding parseType
   parse-type-rt h c r = type-rt Good h c r
 
   parse-value-rt : {v : FieldInitialValue} → WfValue Good 32 v → (c : List Lexeme) (r : List Piece) → parseValue (on c (writeValue v r)) ≡ ok (forgetValue v) (on c r)
-  unfolding parseValue nesting
+  unfolding parseValue
   parse-value-rt h c r = value-rt Good h c r
 
   id-rt : {i : Option Lexeme} → WfId Good i → (c : List Lexeme) (r : List Piece) → parseFieldId (on c (writeId i r)) ≡ ok (opt bareL i) (on c r)

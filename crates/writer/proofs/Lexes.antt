@@ -37,7 +37,8 @@ use Rattle.lexer.specs.Cuts.{Cuts, end, stuck, cut, cuts, unrecognized}
 use Rattle.lexer.specs.Location.{pass, between, opening}
 use Rattle.lexer.specs.Tokens.{Lexeme, lexeme, skipped, lexemes, tokens}
 use Rattle.utf8.specs.Utf8.{WellFormed}
-use Rattle.lexer.specs.Check.{limit, verdict, checked}
+use Rattle.lexer.specs.Check.{verdict, checked}
+use Rattle.lexer.specs.Limit.{limit}
 use Rattle.lexer.proofs.CutLaws.{cuts-nil, cuts-hit}
 use Rattle.utf8.proofs.Utf8Laws.{well-join, well-ascii, Ascii}
 use Rattle.writer.specs.Print.{Piece, bytesOf}
@@ -280,5 +281,5 @@ pub cut-through : {ps : List Piece} → Sep ps → (a : ℕ) → unrecognized (c
 cut-through h a = gives h .passes a
 
 pub fine-print : {ps : List Piece} → Sep ps → length (bytesOf ps) ≤ 65536 → checked (bytesOf ps) ≡ accepted []
-unfolding checked limit verdict
+unfolding checked verdict
 fine-print {ps} h l = rw (le-ltb 65536 (length (bytesOf ps)) l, well h, cut-through h 0)

@@ -6,7 +6,7 @@ use lib.Dec.{ltb}
 use lib.ListN.{length, getD, replicate}
 use Rattle.lexer.specs.Error.{TextTooLong, IndentTooWide, OutputFull}
 use Rattle.lexer.specs.Outcome.{Outcome, accepted, refused}
-use Rattle.lexer.specs.Check.{limit}
+use Rattle.lexer.specs.Limit.{limit}
 use Rattle.ast.specs.Ast.{Definition}
 use Rattle.ast.specs.Records.{nodeRows, notes, cleared}
 use Rattle.parser.specs.Read.{outcome, fitted, left, rowsBy}
@@ -15,7 +15,7 @@ use Rattle.writer.specs.declared.Printed.{Printed}
 use Rattle.writer.specs.declared.Printed.the-variants.{Accepted, Refused}
 
 -- the most spaces a level
-unfoldable pub widest : ℕ
+abbrev pub widest : ℕ
 widest = 8
 
 -- 20, then 26, then the rest as in a reading

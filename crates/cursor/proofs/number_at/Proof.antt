@@ -2,12 +2,13 @@
 use borrow.Author.Needs.{needs}
 use borrow.Author.Tests.{le-leb}
 use Rattle.cursor.proofs.Bytes.{number-in, number-past}
+use Rattle.ast.specs.Records.{width}
 use Rattle.cursor.specs.Onto.{numberAt}
 use Rattle.cursor.proofs.number_at.Statement.{statement}
 use Rattle.cursor.proofs.number_at.Tie as tie
 
 returns : tie.Need-returns
-unfolding numberAt
+unfolding numberAt width
 returns c = rw (le-leb _ _ (c .if1 .taken))
 
 returns-2 : tie.Need-returns-2

@@ -2,7 +2,7 @@
 use mathlib.Core.Path.{refl, _∙_}
 use borrow.Author.Needs.{needs}
 use Rattle.token.specs.Tables.{classes, trie, tables}
-use Rattle.lexer.specs.Check.{limit}
+use Rattle.lexer.specs.Limit.{limit}
 use Rattle.place.specs.Place.{placeOf}
 use Rattle.place.proofs.WalkLaws.{clipped}
 use Rattle.place.proofs.find.Statement.{statement}
@@ -15,7 +15,7 @@ reached-requires c κs =
     (refl, f .0, f .1)
 
 returns : tie.Need-returns
-unfolding placeOf limit
+unfolding placeOf
 returns c = c .reached .ensures ∙ rw (c .before .least2 .ensures, c .before .before .before .least .ensures)
 
 pub find-spec : {M : Type 1} → statement M

@@ -1,0 +1,15 @@
+-- Where its numbers stand in a record, by document 01's order, from 0: `row` (Records) lays them so. The kind is the first.
+use Prim.Native.Nat.{ℕ}
+
+abbrev pub Parent : ℕ
+Parent = 1
+
+abbrev pub Flags : ℕ
+Flags = 2
+
+-- index, then line and column behind it
+abbrev pub Start : ℕ
+Start = 3
+
+abbrev pub End : ℕ
+End = 6
