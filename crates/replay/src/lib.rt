@@ -7,9 +7,12 @@
 //     three prints, each its length and its bytes
 use libc::STDIN_FILENO;
 use libc::STDOUT_FILENO;
+ghost use mathlib.Core.Path.{_≡_};
+ghost use mathlib.Core.Bool.{true};
 ghost use Prim.Native.Nat.{_+_, _≤_};
 ghost use lib.ListN.{length};
 ghost use Rattle.io.specs.Counts.{Counts};
+ghost use Rattle.replay.specs.List.{numberAt, ZeroFrom};
 
 // Longer than each text and each print of the list.
 pub const SPACE: usize = 66560;
@@ -25,7 +28,7 @@ const FIELD: u8 = ast::kind::FIELD as u8;
 const ID: u8 = ast::kind::FIELD_ID as u8;
 
 fn wide(byte: u8) -> u32
-    ensures { λ r. ⌜ r ≤ 255 ⌝ }
+    ensures { λ r. ⌜ (r ≡ byte) × (r ≤ 255) ⌝ }
 {
     byte as u32
 }
@@ -33,6 +36,7 @@ fn wide(byte: u8) -> u32
 // The number at an offset.
 pub fn number(list: &[u8], at: usize) -> u32
     requires { ⌜ at + 4 ≤ length (now list) ⌝ }
+    ensures { λ r. ⌜ r ≡ numberAt (now (list .entry)) at ⌝ }
 {
     let a = wide(list[at]);
     let b = wide(list[at + 1]);
@@ -100,31 +104,16 @@ pub fn pass_part() {
     io::read_full(STDIN_FILENO, &mut bytes[..left]);
 }
 
-// One more, or as much as a number holds.
-pub fn more(n: u32) -> u32 {
-    if n < 4294967295 { n + 1 } else { n }
-}
-
 // Whether a table is 0 from an index on.
-pub fn zero_from(table: &[u32], start: usize) -> bool {
+pub fn zero_from(table: &[u32], start: usize) -> bool
+    ensures { λ r. ⌜ (r ≡ true → ZeroFrom (now (table .entry)) start) × (ZeroFrom (now (table .entry)) start → r ≡ true) ⌝ }
+{
     let mut i = start;
     while i < table.len() {
         if table[i] != 0 {
             return false;
         }
         i += 1;
-    }
-    true
-}
-
-pub fn same_bytes(a: &[u8], b: &[u8]) -> bool {
-    if a.len() != b.len() {
-        return false;
-    }
-    for k in 0..a.len() {
-        if a[k] != b[k] {
-            return false;
-        }
     }
     true
 }

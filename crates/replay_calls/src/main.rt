@@ -237,7 +237,7 @@ fn keep(space: &mut [u8], out: &[u8], printed: Printed, steps: Steps) -> Steps {
         return Steps {
             length: steps.length,
             accepted: steps.accepted,
-            refused: replay::more(steps.refused),
+            refused: ast::bump(steps.refused),
             kept: steps.kept,
             same: steps.same,
         };
@@ -245,7 +245,7 @@ fn keep(space: &mut [u8], out: &[u8], printed: Printed, steps: Steps) -> Steps {
     if space.len() < bytes {
         return Steps {
             length: steps.length,
-            accepted: replay::more(steps.accepted),
+            accepted: ast::bump(steps.accepted),
             refused: steps.refused,
             kept: steps.kept,
             same: steps.same,
@@ -254,9 +254,9 @@ fn keep(space: &mut [u8], out: &[u8], printed: Printed, steps: Steps) -> Steps {
     lay(space, out, bytes);
     Steps {
         length: bytes,
-        accepted: replay::more(steps.accepted),
+        accepted: ast::bump(steps.accepted),
         refused: steps.refused,
-        kept: replay::more(steps.kept),
+        kept: ast::bump(steps.kept),
         same: steps.same,
     }
 }
@@ -402,7 +402,7 @@ impl Tally {
         self.accepted = plus(self.accepted, steps.accepted);
         self.refused = plus(self.refused, steps.refused);
         if !steps.same {
-            self.differing = replay::more(self.differing);
+            self.differing = ast::bump(self.differing);
         }
         self
     }
@@ -410,7 +410,7 @@ impl Tally {
     // With a file that stays, or does not.
     fn stayed(mut self, same: bool) -> Tally {
         if !same {
-            self.altered = replay::more(self.altered);
+            self.altered = ast::bump(self.altered);
         }
         self
     }
@@ -433,7 +433,7 @@ fn stays(space: &mut [u8], other: &[u8], length: usize, number: u32, requests: &
     if again != length {
         return false;
     }
-    replay::same_bytes(space, other)
+    check::same(space, other)
 }
 
 // Whether a printing was kept, of a text whose fields are numbered.
@@ -456,7 +456,7 @@ fn same_lent(
     if !same_numbers(comments, other_comments) {
         return false;
     }
-    replay::same_bytes(out, other_out)
+    check::same(out, other_out)
 }
 
 // Makes the calls of a text so long in two spaces, by `file::run` and one by one, and compares.
@@ -502,7 +502,7 @@ fn compare_in(
     steps
         .compared(same)
         .compared(length == steps.length)
-        .compared(replay::same_bytes(space, spare))
+        .compared(check::same(space, spare))
 }
 
 // Makes a list of calls of a text, compares, and makes them again if the file must stay.

@@ -34,7 +34,7 @@ fn has_print(out: &[u8], print: &[u8]) -> bool {
     if out.len() <= end {
         return false;
     }
-    if !replay::same_bytes(&out[..end], print) {
+    if !check::same(&out[..end], print) {
         return false;
     }
     zero_bytes(out, end)
@@ -145,22 +145,22 @@ impl Tally {
     // With an answer that is the list's, or differs.
     fn compared(mut self, same: bool) -> Tally {
         if !same {
-            self.differing = replay::more(self.differing);
+            self.differing = ast::bump(self.differing);
         }
         self
     }
 
     // With a print that is the list's, or differs.
     fn printed(mut self, same: bool) -> Tally {
-        self.prints = replay::more(self.prints);
+        self.prints = ast::bump(self.prints);
         self.compared(same)
     }
 
     // With a print that was printed again.
     fn printed_again(mut self, same: bool) -> Tally {
-        self.again = replay::more(self.again);
+        self.again = ast::bump(self.again);
         if !same {
-            self.altered = replay::more(self.altered);
+            self.altered = ast::bump(self.altered);
         }
         self
     }
