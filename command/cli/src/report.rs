@@ -69,9 +69,6 @@ pub fn refusal(name: &OsStr, text: &[u8], refusal: &Refusal) -> String {
         out.push_str(&excerpt(text, place.offset as usize, place.column as usize));
     }
     out.push_str(&format!("  {}{}\n", words.advice, culprit(text, refusal)));
-    if text[..place.offset as usize].windows(2).any(|pair| pair == b"\r\n") {
-        out.push_str("  (This file's lines end in CR LF, and each such end counts as two lines.)\n");
-    }
     out
 }
 

@@ -217,7 +217,12 @@ mod tests {
     #[test]
     fn places_by_the_line_rule() {
         let at = |text: &[u8], offset| { let p = place(text, offset); (p.line, p.column) };
-        assert_eq!(at(b"\r\nenum E{}", 2), (3, 1));
+        assert_eq!(at(b"\r\nenum E{}", 2), (2, 1));
+        assert_eq!(at(b"\r\nenum E{}", 1), (1, 2));
+        assert_eq!(at(b"\n\renum E{}", 2), (3, 1));
+        assert_eq!(at(b"\r\r\nenum E{}", 3), (3, 1));
+        assert_eq!(at(b"\renum E{}", 1), (2, 1));
+        assert_eq!(at(b"enum E{}\r", 9), (2, 1));
         assert_eq!(at(b"\x0cenum E{}", 1), (2, 1));
         assert_eq!(at(b"/*\r\n*/enum E{}", 6), (2, 3));
         assert_eq!(at(b"const string X='\n'enum E{}", 18), (1, 19));

@@ -10,7 +10,7 @@ use lib.ListN.{length}
 use borrow.Author.Tests.{leb-true, le-leb}
 use Rattle.token.specs.Code.{code, is}
 use Rattle.token.specs.Regex.{Range, to, Regex, empty, set, seq, alt, star, within, then, ranges, bytes}
-use Rattle.token.specs.Patterns.{wordRule, token, oneOf, plus as some-of, opt, words, marks, digits as digitsOf, sign as signOf, exponent as exponentOf, point as pointOf, shapes, rest, rules}
+use Rattle.token.specs.Patterns.{wordRule, token, oneOf, plus as some-of, opt, words, marks, digits as digitsOf, sign as signOf, exponent as exponentOf, point as pointOf, shapes, rest, rules, patternOf}
 use Rattle.token.specs.Match.{Star, stop, more as again, In}
 use Rattle.constants.specs.Constants.{
   Digit,
@@ -36,7 +36,6 @@ use Rattle.constants.specs.Constants.{
   scaled,
   BareDot,
   bare,
-  patternOf,
   integerPattern,
   doublePattern,
   hexPattern,

@@ -12,7 +12,7 @@ use lib.Seq.{take-length}
 use borrow.Author.Tests.{ltb-true, lt-leb, ne-eqb}
 use Rattle.token.specs.Code.{code, is}
 use Rattle.token.specs.Regex.{Range, to, Regex, set, seq, within, then, bytes, ranges}
-use Rattle.token.specs.Patterns.{Rule, rule, Word, word, wordRule, token, oneOf, noneOf, plus, opt, exact, words, marks, name, quoted, digits as digitsOf, sign as signOf, exponent as exponentOf, point as pointOf, stars, shapes, rest, rules}
+use Rattle.token.specs.Patterns.{Rule, rule, Word, word, wordRule, token, oneOf, noneOf, plus, opt, exact, words, marks, name, quoted, digits as digitsOf, sign as signOf, exponent as exponentOf, point as pointOf, stars, shapes, rest, rules, patternOf}
 use Rattle.token.specs.Scan.{scan}
 use Rattle.token.specs.Match.{In, None, First, NoneBeyond, Longest}
 use Rattle.token.specs.declared.Token.{Token}
@@ -20,7 +20,7 @@ use Rattle.token.specs.declared.Token.the-variants as T
 use Rattle.token.specs.declared.Scan.{Scan}
 use Rattle.token.specs.declared.Scan.the-variants.{Miss, Hit}
 use Rattle.token.proofs.Meaning.{scan-longest}
-use Rattle.constants.specs.Constants.{IntConstant, Shared, BareDot, patternOf, integerPattern, doublePattern, hexPattern}
+use Rattle.constants.specs.Constants.{IntConstant, Shared, BareDot, integerPattern, doublePattern, hexPattern}
 use Rattle.constants.proofs.Shapes.{Shape, shared, bareDot, loneExponent, loneSign, integer, other, isDigit, isSign, isLetter, digitNext, signNext, at, walk, unsign, shape, shape-int, shape-bare, shape-shared}
 use Rattle.constants.proofs.Parts.{within-cases, nowhere, one}
 use Rattle.constants.proofs.Tokens.{int-token, double-token}

@@ -4,8 +4,8 @@ use Prim.Native.Nat.{ℕ, _≤_}
 use mathlib.Core.Bool.{cond}
 use mathlib.Core.List.{List, [], _∷_, _++_}
 use Rattle.token.specs.Code.{is}
-use Rattle.token.specs.Regex.{Regex, nothing}
-use Rattle.token.specs.Patterns.{Rule, rule, rules}
+use Rattle.token.specs.Regex.{Regex}
+use Rattle.token.specs.Patterns.{patternOf, rules}
 use Rattle.token.specs.declared.Token.{Token}
 use Rattle.token.specs.declared.Token.the-variants as T
 
@@ -55,11 +55,6 @@ pub data DoubleConstant : List ℕ → Type 0 where
   double : {s d f e : List ℕ} → Sign s → Digits d → Fraction f → Exponent e → DoubleConstant (s ++ (d ++ (f ++ e)))
 
 -- ---- the token patterns, out of rico's list
-
--- the pattern of a kind
-unfoldable pub patternOf : Token → List Rule → Regex
-patternOf k [] = nothing
-patternOf k (rule q r ∷ rs) = cond (is k q) r (patternOf k rs)
 
 unfoldable pub integerPattern : Regex
 integerPattern = patternOf T.IntegerLiteral rules

@@ -29,7 +29,7 @@ use Rattle.writer.proofs.Toks.{Good}
 abbrev Alone : Cuts → Type 0
 Alone end = Unit
 Alone stuck = Unit
-Alone (cut k w cs) = Bytes w × (scan w ≡ Hit k (length w)) × Alone cs
+Alone (cut k w r cs) = Bytes w × (scan w ≡ Hit k (length w)) × Alone cs
 
 bytes-drop : (n : ℕ) (t : List ℕ) → Bytes t → Bytes (drop n t)
 bytes-drop zero t b = b
@@ -60,10 +60,10 @@ good-from : (cs : Cuts) (s : Lexer) → Alone cs → Well cs → All (GoodL Good
 unfolding lexemes bytes scan kind
 good-from end s a w = anil
 good-from stuck s a w = anil
-good-from (cut k b cs) s a w = go (skipped k) refl (good-from cs (pass b k s) (a .2) (w .1))
+good-from (cut k b r cs) s a w = go (skipped k) refl (good-from cs (pass b k r s) (a .2) (w .1))
   where
-    go : (x : Bool) → skipped k ≡ x → All (GoodL Good) (lexemes cs (pass b k s))
-        → All (GoodL Good) (cond x (lexemes cs (pass b k s)) (lexeme k b (between s (pass b k s)) ∷ lexemes cs (pass b k s)))
+    go : (x : Bool) → skipped k ≡ x → All (GoodL Good) (lexemes cs (pass b k r s))
+        → All (GoodL Good) (cond x (lexemes cs (pass b k r s)) (lexeme k b (between s (pass b k r s)) ∷ lexemes cs (pass b k r s)))
     go true e g = g
     go false e g = acons (record { bytes = a .0; scanned = a .1; solid = e; formed = w .0 }) g
 

@@ -35,29 +35,29 @@ final-on : (n : ℕ) (cs : Cuts) (s : Lexer) (l : LOC) → n ≤ l .end .index �
 unfolding final lexemes place between spanOf
 final-on n end s l h g = h
 final-on n stuck s l h g = h
-final-on n (cut k w cs) s l h g = go (skipped k) (final-on n cs (pass w k s))
+final-on n (cut k w r cs) s l h g = go (skipped k) (final-on n cs (pass w k r s))
   where
-    z : n ≤ pass w k s .at
-    z = omega (arith, pass-at w k s, g)
+    z : n ≤ pass w k r s .at
+    z = omega (arith, pass-at w k r s, g)
 
-    go : (b : Bool) → ((x : LOC) → n ≤ x .end .index → n ≤ pass w k s .at → n ≤ final x (lexemes cs (pass w k s)) .end .index)
-        → n ≤ final l (cond b (lexemes cs (pass w k s)) (lexeme k w (between s (pass w k s)) ∷ lexemes cs (pass w k s))) .end .index
+    go : (b : Bool) → ((x : LOC) → n ≤ x .end .index → n ≤ pass w k r s .at → n ≤ final x (lexemes cs (pass w k r s)) .end .index)
+        → n ≤ final l (cond b (lexemes cs (pass w k r s)) (lexeme k w (between s (pass w k r s)) ∷ lexemes cs (pass w k r s))) .end .index
     go true ih = ih l h z
-    go false ih = ih (between s (pass w k s)) z z
+    go false ih = ih (between s (pass w k r s)) z z
 
 final-long : (cs : Cuts) (s : Lexer) (l : LOC) → Long (lexemes cs s) → 2 ≤ final l (lexemes cs s) .end .index
 unfolding final lexemes place between spanOf
-final-long (cut k w cs) s l h = go (skipped k) h (final-long cs (pass w k s))
+final-long (cut k w r cs) s l h = go (skipped k) h (final-long cs (pass w k r s))
   where
-    far : 2 ≤ length w → 2 ≤ pass w k s .at
-    far g = omega (arith, pass-at w k s, g)
+    far : 2 ≤ length w → 2 ≤ pass w k r s .at
+    far g = omega (arith, pass-at w k r s, g)
 
-    go : (b : Bool) → Long (cond b (lexemes cs (pass w k s)) (lexeme k w (between s (pass w k s)) ∷ lexemes cs (pass w k s)))
-        → ((x : LOC) → Long (lexemes cs (pass w k s)) → 2 ≤ final x (lexemes cs (pass w k s)) .end .index)
-        → 2 ≤ final l (cond b (lexemes cs (pass w k s)) (lexeme k w (between s (pass w k s)) ∷ lexemes cs (pass w k s))) .end .index
+    go : (b : Bool) → Long (cond b (lexemes cs (pass w k r s)) (lexeme k w (between s (pass w k r s)) ∷ lexemes cs (pass w k r s)))
+        → ((x : LOC) → Long (lexemes cs (pass w k r s)) → 2 ≤ final x (lexemes cs (pass w k r s)) .end .index)
+        → 2 ≤ final l (cond b (lexemes cs (pass w k r s)) (lexeme k w (between s (pass w k r s)) ∷ lexemes cs (pass w k r s))) .end .index
     go true g ih = ih l g
-    go false (here g) ih = final-on 2 cs (pass w k s) (between s (pass w k s)) (far g) (far g)
-    go false (there g) ih = ih (between s (pass w k s)) g
+    go false (here g) ih = final-on 2 cs (pass w k r s) (between s (pass w k r s)) (far g) (far g)
+    go false (there g) ih = ih (between s (pass w k r s)) g
 
 long-bare : (ts : List Lexeme) → Long (bares ts) → Long ts
 unfolding bares bareL

@@ -104,7 +104,7 @@ starts-cut t a b u = go (view t)
 abbrev pub Well : Cuts → Type 0
 Well end = Unit
 Well stuck = Unit
-Well (cut k w cs) = WellFormed w × Well cs
+Well (cut k w r cs) = WellFormed w × Well cs
 
 well-from : (m : ℕ) (t : List ℕ) (a : ℕ) → length t ≤ m → Bytes t → WellFormed t → unrecognized (cuts t) a ≡ none → Well (cuts t)
 unfolding unrecognized
@@ -120,7 +120,7 @@ well-from (suc m) t a h b w u = go (view t) (λ n. well-from m (drop n t))
     go (over e f) ih = rw e tt
     go (none-here e) ih = rw e tt
     go (one k n e) ih =
-        let c : cuts t ≡ cut k (take n t) (cuts (drop n t)) = cuts-hit t k n e in
+        let c : cuts t ≡ cut k (take n t) (drop n t) (cuts (drop n t)) = cuts-hit t k n e in
         let v : unrecognized (cuts (drop n t)) (a + length (take n t)) ≡ none = rw c at u in
         let s : Starts (drop n t) = starts-cut (drop n t) (a + length (take n t)) (bytes-drop t n b) v in
         let x : WellFormed (take n t ++ drop n t) = rw (take-append-drop n t) w in
@@ -138,9 +138,9 @@ well-lexemes : (cs : Cuts) (s : Lexer) → Well cs → WellTokens (lexemes cs s)
 unfolding lexemes
 well-lexemes end s h = tt
 well-lexemes stuck s h = tt
-well-lexemes (cut k w cs) s h = go (skipped k) (well-lexemes cs (pass w k s) (h .1))
+well-lexemes (cut k w r cs) s h = go (skipped k) (well-lexemes cs (pass w k r s) (h .1))
   where
-    go : (b : Bool) → WellTokens (lexemes cs (pass w k s)) → WellTokens (cond b (lexemes cs (pass w k s)) (lexeme k w (between s (pass w k s)) ∷ lexemes cs (pass w k s)))
+    go : (b : Bool) → WellTokens (lexemes cs (pass w k r s)) → WellTokens (cond b (lexemes cs (pass w k r s)) (lexeme k w (between s (pass w k r s)) ∷ lexemes cs (pass w k r s)))
     go true x = x
     go false x = (h .0, x)
 

@@ -38,24 +38,28 @@ use Rattle.lexer.proofs.ExtentLaws.{Blanks, one, more, blanks-at}
 first-of : (t : List ℕ) (i n : ℕ) → i < length t → take (suc n) (drop i t) ≡ getD t i 0 ∷ take n (drop (i + 1) t)
 first-of t i n h = rw (add-one, drop-cons t i 0 h)
 
+rest-of : (t : List ℕ) (i n : ℕ) → i < length t → drop (suc n) (drop i t) ≡ drop n (drop (i + 1) t)
+rest-of t i n h = rw (add-one, drop-cons t i 0 h)
+
 module _ (t : List ℕ) (s : Lexer) (bytes : (j : ℕ) → getD t j 0 < 256) (h : s .at < length t) where
-  passed-one : (k : Token) → pass (take 1 (drop (s .at) t)) k s ≡ behind (endsLine k (getD t (s .at) 0)) s
+  passed-one : (k : Token) → pass (take 1 (drop (s .at) t)) k (drop 1 (drop (s .at) t)) s ≡ behind (endsLine k (getD t (s .at) 0) (drop (s .at + 1) t)) s
   unfolding pass
-  passed-one k = rw (first-of t (s .at) 0 h)
+  passed-one k = rw (add-one, drop-cons t (s .at) 0 h)
 
   blank : Blanks t (s .at) → next t s ≡ next t (behind false s)
   unfolding skipped is code endsLine pass behind
   blank (one e) = next-hit t s T.Blank 1 e (behind false s) (sym (passed-one T.Blank))
   blank (more n e f) =
-      next-hit t s T.Blank (suc n) e (pass (take n (drop (s .at + 1) t)) T.Blank (behind false s)) (rw (first-of t (s .at) n h))
-      ∙ sym (next-hit t (behind false s) T.Blank n f (pass (take n (drop (s .at + 1) t)) T.Blank (behind false s)) refl)
+      let q : Lexer = pass (take n (drop (s .at + 1) t)) T.Blank (drop n (drop (s .at + 1) t)) (behind false s) in
+      next-hit t s T.Blank (suc n) e q (rw (first-of t (s .at) n h, rest-of t (s .at) n h)) ∙ sym (next-hit t (behind false s) T.Blank n f q refl)
 
   pub next-blank : classOf (getD t (s .at) 0) ≡ 59 → next t s ≡ next t (behind false s)
   next-blank e = blank (blanks-at t (s .at) bytes h e)
 
-  pub next-line : (k : ℕ) → k ≡ classOf (getD t (s .at) 0) → (eqb k 39 || eqb k 40) ≡ true → next t s ≡ next t (behind true s)
-  unfolding skipped is code endsLine
-  next-line k e l = next-hit t s T.Newline 1 (line-at t (s .at) bytes h k e l) (behind true s) (sym (passed-one T.Newline))
+  pub next-line : (k : ℕ) → k ≡ classOf (getD t (s .at) 0) → (eqb k 39 || eqb k 40) ≡ true
+      → next t s ≡ next t (behind (endsLine T.Newline (getD t (s .at) 0) (drop (s .at + 1) t)) s)
+  unfolding skipped is code
+  next-line k e l = next-hit t s T.Newline 1 (line-at t (s .at) bytes h k e l) _ (sym (passed-one T.Newline))
 
 -- a token of one byte that is not passed over and ends no line, or none
 plain : Scan → Bool
@@ -87,7 +91,7 @@ module _ (t : List ℕ) (s : Lexer) (h : s .at < length t) where
       let y : skipped k ≡ false = not-false (skipped k) (both-left token (both newline block) a) in
       let z : is k T.Newline ≡ false = not-false (is k T.Newline) (both-left newline block b) in
       let w : is k T.BlockComment ≡ false = not-false (is k T.BlockComment) (both-right newline block b) in
-      let g : behind false s ≡ pass (take n (drop (s .at) t)) k s = rw (x, first-of t (s .at) 0 h, z, w) in
+      let g : behind false s ≡ pass (take n (drop (s .at) t)) k (drop n (drop (s .at) t)) s = rw (x, drop-cons t (s .at) 0 h, z, w) in
       rw y at (next-hit t s k n e (behind false s) g)
 
   pub next-mark : ((j : ℕ) → getD t j 0 < 256) → (k : ℕ) → k ≡ classOf (getD t (s .at) 0) → 46 ≤ k → (k ≡ 59 → ⊥) → next t s ≡ marked (opened k) s

@@ -4,7 +4,7 @@
 --     next-hit      the next token, blanks passed
 use mathlib.Core.Path.{_≡_, refl, sym, ap, _∙_, subst}
 use mathlib.Core.Bool.{Bool, cond}
-use mathlib.Core.List.{List, [], _∷_}
+use mathlib.Core.List.{List, [], _∷_, _++_}
 use mathlib.Core.Option.{some, none}
 use Prim.Native.Nat.{ℕ, zero, suc, _+_, _-_, _<_, _≤_}
 use native.Mathlib.Omega.{arith}
@@ -24,9 +24,6 @@ use Rattle.lexer.specs.Tokens.{skipped, nextOf, next}
 
 pub hit-fits : (t : List ℕ) (k : Token) (n : ℕ) → scan t ≡ Hit k n → (0 < n) × (n ≤ length t)
 hit-fits t k n e = let h : Longest t (Hit k n) = subst (Longest t) e (scan-longest t) in (h .0, h .1)
-
-pub slice : (t : List ℕ) (at n : ℕ) → take (at + n - at) (drop at t) ≡ take n (drop at t)
-slice t at n = let e : at + n - at ≡ n = omega arith in rw e
 
 -- ---- cuts
 
@@ -50,10 +47,10 @@ unfolding cuts
 behind-first c w zero h = absurd (omega arith)
 behind-first c w (suc n) h = let e : suc n - 1 ≡ n = omega arith in rw e (cuts-skip w n)
 
-pub cuts-hit : (t : List ℕ) (k : Token) (n : ℕ) → scan t ≡ Hit k n → cuts t ≡ cut k (take n t) (cuts (drop n t))
+pub cuts-hit : (t : List ℕ) (k : Token) (n : ℕ) → scan t ≡ Hit k n → cuts t ≡ cut k (take n t) (drop n t) (cuts (drop n t))
 unfolding cuts cutsFrom cutAt
 cuts-hit [] k n e = absurd (omega (arith, hit-fits [] k n e .0, hit-fits [] k n e .1))
-cuts-hit (c ∷ w) k n e = rw e (ap (cut k (take n (c ∷ w))) (behind-first c w n (hit-fits (c ∷ w) k n e .0)))
+cuts-hit (c ∷ w) k n e = rw e (ap (cut k (take n (c ∷ w)) (drop n (c ∷ w))) (behind-first c w n (hit-fits (c ∷ w) k n e .0)))
 
 -- ---- the offset where no token starts
 
@@ -75,10 +72,10 @@ module _ (t : List ℕ) (at : ℕ) where
 
 -- ---- the next token
 
-pub pass-at : (w : List ℕ) (k : Token) (s : Lexer) → pass w k s .at ≡ s .at + length w
+pub pass-at : (w : List ℕ) (k : Token) (r : List ℕ) (s : Lexer) → pass w k r s .at ≡ s .at + length w
 unfolding pass
-pass-at [] k s = omega arith
-pass-at (b ∷ w) k s = pass-at w k (behind (endsLine k b) s) ∙ go (endsLine k b)
+pass-at [] k r s = omega arith
+pass-at (b ∷ w) k r s = pass-at w k r (behind (endsLine k b (w ++ r)) s) ∙ go (endsLine k b (w ++ r))
   where
     go : (p : Bool) → behind p s .at + length w ≡ s .at + suc (length w)
     go p = omega (arith, behind-at p s)
@@ -92,11 +89,11 @@ module _ (t : List ℕ) (s : Lexer) where
   unfolding next nextOf
   next-miss h e = rw (cuts-miss (drop (s .at) t) (omega (arith, length-drop (s .at) t)) e)
 
-  pub next-hit : (k : Token) (n : ℕ) → scan (drop (s .at) t) ≡ Hit k n → (e : Lexer) → e ≡ pass (take n (drop (s .at) t)) k s
+  pub next-hit : (k : Token) (n : ℕ) → scan (drop (s .at) t) ≡ Hit k n → (e : Lexer) → e ≡ pass (take n (drop (s .at) t)) k (drop n (drop (s .at) t)) s
       → next t s ≡ cond (skipped k) (next t e) (N.On (record { token = k; loc = between s e }) e)
   unfolding next nextOf
   next-hit k n f e g =
       let m : s .at + n ≡ e .at
-      = sym (ap (λ (x : Lexer). x .at) g ∙ pass-at (take n (drop (s .at) t)) k s ∙ rw (length-take-le n (drop (s .at) t) (hit-fits (drop (s .at) t) k n f .1))) in
+      = sym (ap (λ (x : Lexer). x .at) g ∙ pass-at (take n (drop (s .at) t)) k (drop n (drop (s .at) t)) s ∙ rw (length-take-le n (drop (s .at) t) (hit-fits (drop (s .at) t) k n f .1))) in
       ap (λ (c : Cuts). nextOf c s) (cuts-hit (drop (s .at) t) k n f)
       ∙ rw (← g, drop-drop n (s .at) t, m)

@@ -32,7 +32,7 @@ use Rattle.lexer.proofs.PlaceLaws.{pass-placed}
 
 -- the lexer behind the n bytes at s
 unfoldable pub behind : List ℕ → Lexer → Token → ℕ → Lexer
-behind t s k n = pass (take n (drop (s .at) t)) k s
+behind t s k n = pass (take n (drop (s .at) t)) k (drop n (drop (s .at) t)) s
 
 -- a lexeme of the kind k and of n bytes stands at s
 Stands : List ℕ → Lexer → Token → ℕ → Type 0
@@ -45,7 +45,7 @@ module _ (t : List ℕ) (s : Lexer) (k : Token) (n : ℕ) (h : Stands t s k n) w
 
   moved : behind t s k n .at ≡ s .at + n
   unfolding behind
-  moved = pass-at (take n (drop (s .at) t)) k s ∙ omega (arith, taken)
+  moved = pass-at (take n (drop (s .at) t)) k (drop n (drop (s .at) t)) s ∙ omega (arith, taken)
 
   fits : (0 < n) × (s .at + n ≤ length t)
   unfolding Stands
@@ -55,7 +55,7 @@ module _ (t : List ℕ) (s : Lexer) (k : Token) (n : ℕ) (h : Stands t s k n) w
 
   placed : Placed s → length t ≤ 65536 → Placed (behind t s k n)
   unfolding behind
-  placed p l = pass-placed (take n (drop (s .at) t)) k s p (omega (arith, taken, fits .1))
+  placed p l = pass-placed (take n (drop (s .at) t)) k (drop n (drop (s .at) t)) s p (omega (arith, taken, fits .1))
 
 -- ---- what holds of a token and is kept by the blanks before it holds of the next token
 
@@ -176,7 +176,7 @@ none-left : (c : Cuts) (s : Lexer) → None (nextOf c s) → lexemes c s ≡ []
 unfolding nextOf lexemes
 none-left end s h = refl
 none-left stuck s h = refl
-none-left (cut k w c) s h = picked (skipped k) _ _ _ _ _ (none-left c (pass w k s)) h
+none-left (cut k w r c) s h = picked (skipped k) _ _ _ _ _ (none-left c (pass w k r s)) h
 
 pub tokens-end : (t : List ℕ) (s : Lexer) → next t s ≡ N.End → tokens t s ≡ []
 unfolding tokens next None

@@ -1,19 +1,20 @@
 -- Where the lexer stands behind a lexeme.
 use mathlib.Core.Path.{_≡_, refl, ap, _∙_}
-use mathlib.Core.Bool.{Bool, true, false}
+use mathlib.Core.Bool.{Bool, true, false, not, _&&_, _||_, or-false}
 use mathlib.Core.List.{List, [], _∷_, _++_}
-use Prim.Native.Nat.{ℕ, suc, _+_, _<_, _≤_}
+use Prim.Native.Nat.{ℕ, _+_, _<_, _≤_}
 use native.Mathlib.Numerals.{add-one}
 use native.Mathlib.Omega.{arith}
 use borrow.Author.Tests.{eq-eqb, ne-eqb}
 use lib.Dec.{eqb}
-use lib.ListN.{length, getD, take}
-use lib.Seq.{take-suc}
+use lib.ListN.{length, getD, take, drop, drop-of-length-le}
+use lib.Seq.{take-suc, getD-drop}
+use native.Mathlib.Nat.{add-zero}
 use Rattle.token.specs.Code.{code, is}
 use Rattle.token.specs.declared.Token.{Token}
 use Rattle.token.specs.declared.Token.the-variants as T
 use Rattle.lexer.specs.declared.location.Lexer.{Lexer}
-use Rattle.lexer.specs.Location.{endsLine, behind, pass, Placed, opening}
+use Rattle.lexer.specs.Location.{pair, endsLine, behind, pass, Placed, opening}
 
 pub placed-behind : (p : Bool) (s : Lexer) → Placed s → s .at + 1 ≤ 65536 → Placed (behind p s)
 unfolding behind
@@ -25,59 +26,72 @@ unfolding behind
 behind-at true s = refl
 behind-at false s = refl
 
-pub pass-placed : (w : List ℕ) (k : Token) (s : Lexer) → Placed s → s .at + length w ≤ 65536 → Placed (pass w k s)
+pub pass-placed : (w : List ℕ) (k : Token) (r : List ℕ) (s : Lexer) → Placed s → s .at + length w ≤ 65536 → Placed (pass w k r s)
 unfolding pass
-pass-placed [] k s h l = h
-pass-placed (b ∷ w) k s h l =
-    pass-placed w k (behind (endsLine k b) s) (placed-behind (endsLine k b) s h (omega arith)) (omega (arith, behind-at (endsLine k b) s))
+pass-placed [] k r s h l = h
+pass-placed (b ∷ w) k r s h l =
+    let e = endsLine k b (w ++ r) in
+    pass-placed w k r (behind e s) (placed-behind e s h (omega arith)) (omega (arith, behind-at e s))
 
 pub opening-placed : Placed opening
 unfolding opening
 opening-placed = record { lines = omega arith; line-begun = omega arith; below = omega arith }
 
-pub pass-append : (u v : List ℕ) (k : Token) (s : Lexer) → pass (u ++ v) k s ≡ pass v k (pass u k s)
+-- ---- a lexeme of one byte
+
+pub pass-one : (t : List ℕ) (k : Token) (s : Lexer) → 0 < length t → pass (take 1 t) k (drop 1 t) s ≡ behind (endsLine k (getD t 0 0) (drop 1 t)) s
 unfolding pass
-pass-append [] v k s = refl
-pass-append (b ∷ u) v k s = pass-append u v k (behind (endsLine k b) s)
+pass-one [] k s h = absurd (omega arith)
+pass-one (b ∷ t) k s h = refl
 
--- one byte more of a lexeme
-pub pass-more : (w : List ℕ) (k : Token) (s : Lexer) (i : ℕ) → i < length w → pass (take (i + 1) w) k s ≡ behind (endsLine k (getD w i 0)) (pass (take i w) k s)
-unfolding pass
-pass-more w k s i h = rw (add-one, take-suc w i 0 h) (pass-append (take i w) (getD w i 0 ∷ []) k s)
+-- ---- whether the line end at an offset ends a line
 
--- ---- a lexeme in which no byte ends a line, or each does
+module _ (t : List ℕ) (at : ℕ) where
+  pub ends-other : (getD t at 0 ≡ 13 → ⊥) → endsLine T.Newline (getD t at 0) (drop (at + 1) t) ≡ true
+  unfolding endsLine is code pair
+  ends-other h = rw (ne-eqb _ _ h)
 
-pub pass-plain : (w : List ℕ) (k : Token) (s : Lexer) → is k T.Newline ≡ false → is k T.BlockComment ≡ false
-    → pass w k s ≡ record { at = s .at + length w; line = s .line; origin = s .origin }
+  pub ends-last : length t ≤ at + 1 → endsLine T.Newline (getD t at 0) (drop (at + 1) t) ≡ true
+  unfolding endsLine is code pair
+  ends-last h = rw (drop-of-length-le t h) (go (eqb (getD t at 0) 13))
+    where
+      go : (p : Bool) → (not (p && false) || false) ≡ true
+      go true = refl
+      go false = refl
+
+  pub ends-return : getD t at 0 ≡ 13 → endsLine T.Newline (getD t at 0) (drop (at + 1) t) ≡ not (eqb (getD t (at + 1) 0) 10)
+  unfolding endsLine is code pair
+  ends-return h = rw (h, getD-drop (at + 1) t 0 0, add-zero) (or-false _)
+
+-- ---- a lexeme in which no byte ends a line
+
+pub pass-plain : (w : List ℕ) (k : Token) (r : List ℕ) (s : Lexer) → is k T.Newline ≡ false → is k T.BlockComment ≡ false
+    → pass w k r s ≡ record { at = s .at + length w; line = s .line; origin = s .origin }
 unfolding pass endsLine behind
-pass-plain [] k s e f = ap (λ (n : ℕ). record { at = n; line = s .line; origin = s .origin }) (omega arith)
-pass-plain (b ∷ w) k s e f =
-    rw (e, f) (pass-plain w k (record { at = s .at + 1; line = s .line; origin = s .origin }) e f
+pass-plain [] k r s e f = ap (λ (n : ℕ). record { at = n; line = s .line; origin = s .origin }) (omega arith)
+pass-plain (b ∷ w) k r s e f =
+    rw (e, f) (pass-plain w k r (record { at = s .at + 1; line = s .line; origin = s .origin }) e f
     ∙ ap (λ (n : ℕ). record { at = n; line = s .line; origin = s .origin }) (omega arith))
 
-lines : (w : List ℕ) (k : Token) (s : Lexer) → is k T.Newline ≡ true → s .origin ≡ s .at
-    → pass w k s ≡ record { at = s .at + length w; line = s .line + length w; origin = s .at + length w }
-unfolding pass endsLine behind
-lines [] k s e f = let z : s .at + 0 ≡ s .at = omega arith in let y : s .line + 0 ≡ s .line = omega arith in rw (z, y, ← f)
-lines (b ∷ w) k s e f =
-    let z : s .at + 1 + length w ≡ s .at + suc (length w) = omega arith in
-    let y : s .line + 1 + length w ≡ s .line + suc (length w) = omega arith in
-    rw (e, ← z, ← y) (lines w k (record { at = s .at + 1; line = s .line + 1; origin = s .at + 1 }) e refl)
+-- ---- a block comment: what is behind it does not count
 
-pub pass-lines : (w : List ℕ) (k : Token) (s : Lexer) → is k T.Newline ≡ true → 0 < length w
-    → pass w k s ≡ record { at = s .at + length w; line = s .line + length w; origin = s .at + length w }
-unfolding pass endsLine behind
-pass-lines [] k s e h = absurd (omega arith)
-pass-lines (b ∷ w) k s e h =
-    let z : s .at + 1 + length w ≡ s .at + suc (length w) = omega arith in
-    let y : s .line + 1 + length w ≡ s .line + suc (length w) = omega arith in
-    rw (e, ← z, ← y) (lines w k (record { at = s .at + 1; line = s .line + 1; origin = s .at + 1 }) e refl)
-
--- ---- a block comment
-
-pub block-line : (b : ℕ) → endsLine T.BlockComment b ≡ eqb b 10
+pub block-line : (b : ℕ) (r : List ℕ) → endsLine T.BlockComment b r ≡ eqb b 10
 unfolding endsLine is code
-block-line b = refl
+block-line b r = refl
+
+pub block-behind : (w r q : List ℕ) (s : Lexer) → pass w T.BlockComment r s ≡ pass w T.BlockComment q s
+unfolding pass
+block-behind [] r q s = refl
+block-behind (b ∷ w) r q s = rw (block-line b (w ++ r), block-line b (w ++ q)) (block-behind w r q (behind (eqb b 10) s))
+
+block-append : (u : List ℕ) (b : ℕ) (s : Lexer) → pass (u ++ b ∷ []) T.BlockComment [] s ≡ behind (eqb b 10) (pass u T.BlockComment [] s)
+unfolding pass endsLine is code
+block-append [] b s = refl
+block-append (c ∷ u) b s = block-append u b (behind (eqb c 10) s)
+
+-- one byte more of it
+pub block-more : (w : List ℕ) (s : Lexer) (i : ℕ) → i < length w → pass (take (i + 1) w) T.BlockComment [] s ≡ behind (eqb (getD w i 0) 10) (pass (take i w) T.BlockComment [] s)
+block-more w s i h = rw (add-one, take-suc w i 0 h) (block-append (take i w) (getD w i 0) s)
 
 -- ---- kinds told by their numbers
 
@@ -89,7 +103,7 @@ pub not-code : (k q : Token) → (code k ≡ code q → ⊥) → is k q ≡ fals
 unfolding is
 not-code k q e = ne-eqb _ _ e
 
-pub pass-code : (w : List ℕ) (k q : Token) (s : Lexer) → code k ≡ code q → pass w k s ≡ pass w q s
+pub pass-code : (w : List ℕ) (k q : Token) (r : List ℕ) (s : Lexer) → code k ≡ code q → pass w k r s ≡ pass w q r s
 unfolding pass endsLine is
-pass-code [] k q s e = refl
-pass-code (b ∷ w) k q s e = pass-code w k q (behind (endsLine k b) s) e ∙ rw e
+pass-code [] k q r s e = refl
+pass-code (b ∷ w) k q r s e = pass-code w k q r (behind (endsLine k b (w ++ r)) s) e ∙ rw e

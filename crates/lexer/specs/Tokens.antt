@@ -26,8 +26,8 @@ skipped k = is k T.Blank || is k T.Newline
 unfoldable pub lexemes : Cuts → Lexer → List Lexeme
 lexemes end s = []
 lexemes stuck s = []
-lexemes (cut k w cs) s =
-    let e = pass w k s in
+lexemes (cut k w r cs) s =
+    let e = pass w k r s in
     let l = lexemes cs e in
     cond (skipped k) l (lexeme k w (between s e) ∷ l)
 
@@ -39,10 +39,10 @@ tokens t s = lexemes (cuts (drop (s .at) t)) s
 unfoldable pub nextOf : Cuts → Lexer → Next
 nextOf end s = N.End
 nextOf stuck s = N.Unrecognized (s .at)
-nextOf (cut k w cs) s =
-    let e = pass w k s in
-    let r = nextOf cs e in
-    cond (skipped k) r (N.On (record { token = k; loc = between s e }) e)
+nextOf (cut k w r cs) s =
+    let e = pass w k r s in
+    let n = nextOf cs e in
+    cond (skipped k) n (N.On (record { token = k; loc = between s e }) e)
 
 unfoldable pub next : List ℕ → Lexer → Next
 next t s = nextOf (cuts (drop (s .at) t)) s

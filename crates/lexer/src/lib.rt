@@ -76,7 +76,7 @@ pub fn next_token(lut: &[u8; 768], text: &[u8], lexer: Lexer) -> Next
         if k == scan::BLANK {
             from = location::behind(from, false);
         } else if scan::is_line_end(k) {
-            from = location::behind(from, true);
+            from = location::behind(from, location::ends_line(text, at));
         } else if scan::MARK <= k {
             return mark(k, from);
         } else {
@@ -84,8 +84,7 @@ pub fn next_token(lut: &[u8; 768], text: &[u8], lexer: Lexer) -> Next
             let Scan::Hit(token, n) = found else {
                 return Next::Unrecognized(from.at);
             };
-            let end = at + n;
-            let behind = location::pass_lexeme(token, &text[at..end], from);
+            let behind = location::pass_lexeme(token, &text[at..], n, from);
             if skipped(token) {
                 from = behind;
             } else {

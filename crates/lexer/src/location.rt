@@ -2,10 +2,13 @@
 use token::Token;
 ghost use mathlib.Core.Path.{_≡_};
 ghost use Prim.Native.Nat.{_+_, _<_, _≤_};
-ghost use lib.ListN.{length};
+ghost use mathlib.Core.Bool.{true};
+ghost use mathlib.Core.List.{[]};
+ghost use lib.ListN.{length, getD, take, drop};
+ghost use Rattle.token.specs.Code.{is};
 ghost use Rattle.token.specs.declared.Token.the-variants as T;
 ghost use Rattle.lexer.specs.Limit.{limit};
-ghost use Rattle.lexer.specs.Location.{Placed, behind, pass, spanOf, between, opening};
+ghost use Rattle.lexer.specs.Location.{Placed, endsLine, behind, pass, spanOf, between, opening};
 
 // A place: line and column from 1, byte offset from 0.
 pub struct Span {
@@ -95,40 +98,49 @@ pub fn behind(lexer: Lexer, ends: bool) -> Lexer
     }
 }
 
+// Whether the line end at an offset ends a line: a `\r` directly before `\n` does not.
+pub fn ends_line(text: &[u8], at: usize) -> bool
+    requires { ⌜ at < length (now text) ⌝ }
+    ensures { λ r. ⌜ r ≡ endsLine T.Newline (getD (now (text .entry)) at 0) (drop (at + 1) (now (text .entry))) ⌝ }
+{
+    if text[at] != b'\r' {
+        return true;
+    }
+    let next = at + 1;
+    if text.len() <= next {
+        return true;
+    }
+    text[next] != b'\n'
+}
+
 // The lexer behind a block comment: each `\n` in it ends a line.
 fn pass_block(comment: &[u8], lexer: Lexer) -> Lexer
     requires { ⌜ Placed lexer × (lexer .at + length (now comment) ≤ limit) ⌝ }
-    ensures { λ r. ⌜ r ≡ pass (now (comment .entry)) T.BlockComment lexer ⌝ }
+    ensures { λ r. ⌜ r ≡ pass (now (comment .entry)) T.BlockComment [] lexer ⌝ }
 {
     let mut now = lexer;
     let mut i: usize = 0;
     while i < comment.len() {
-        now = behind(now, comment[i] == 10);
+        now = behind(now, comment[i] == b'\n');
         i += 1;
     }
     now
 }
 
-// The lexer behind a lexeme.
-pub fn pass_lexeme(token: Token, bytes: &[u8], lexer: Lexer) -> Lexer
-    requires { ⌜ Placed lexer × (0 < length (now bytes)) × (lexer .at + length (now bytes) ≤ limit) ⌝ }
-    ensures { λ r. ⌜ r ≡ pass (now (bytes .entry)) token lexer ⌝ }
+// The lexer behind a lexeme, the first n bytes of the text ahead. A line end has one byte.
+pub fn pass_lexeme(token: Token, ahead: &[u8], n: usize, lexer: Lexer) -> Lexer
+    requires { ⌜ Placed lexer × (0 < n) × (n ≤ length (now ahead)) × (lexer .at + n ≤ limit) × (is token T.Newline ≡ true → n ≡ 1) ⌝ }
+    ensures { λ r. ⌜ r ≡ pass (take n (now (ahead .entry))) token (drop n (now (ahead .entry))) lexer ⌝ }
 {
     let code = token.code();
     if code == token::kind::BLOCK_COMMENT {
-        return pass_block(bytes, lexer);
+        return pass_block(&ahead[..n], lexer);
     }
-    let n = bytes.len() as u32;
-    let at = lexer.at + n;
     if code == token::kind::NEWLINE {
-        return Lexer {
-            at,
-            line: lexer.line + n,
-            origin: at,
-        };
+        return behind(lexer, ends_line(ahead, 0));
     }
     Lexer {
-        at,
+        at: lexer.at + n as u32,
         line: lexer.line,
         origin: lexer.origin,
     }

@@ -194,7 +194,7 @@ tokens-stand text = stand-from text (length text) opening (omega arith)
 abbrev Ruled : Cuts → Type 0
 Ruled end = Unit
 Ruled stuck = Unit
-Ruled (cut k w cs) = First rules w k × Ruled cs
+Ruled (cut k w r cs) = First rules w k × Ruled cs
 
 ruled-step : (m : ℕ) (t : List ℕ) → ((u : List ℕ) → length u ≤ m → Ruled (cuts u)) → length t ≤ suc m → Ruled (cuts t)
 ruled-step m [] ih h = rw cuts-nil tt
@@ -222,10 +222,10 @@ ruled-lexemes : (cs : Cuts) (s : Lexer) → Ruled cs → All HasRule (lexemes cs
 unfolding lexemes bytes kind
 ruled-lexemes end s a = anil
 ruled-lexemes stuck s a = anil
-ruled-lexemes (cut k b cs) s a = go (skipped k) (ruled-lexemes cs (passed b k s) (a .1))
+ruled-lexemes (cut k b r cs) s a = go (skipped k) (ruled-lexemes cs (passed b k r s) (a .1))
   where
-    go : (x : Bool) → All HasRule (lexemes cs (passed b k s))
-        → All HasRule (cond x (lexemes cs (passed b k s)) (lexeme k b (between s (passed b k s)) ∷ lexemes cs (passed b k s)))
+    go : (x : Bool) → All HasRule (lexemes cs (passed b k r s))
+        → All HasRule (cond x (lexemes cs (passed b k r s)) (lexeme k b (between s (passed b k r s)) ∷ lexemes cs (passed b k r s)))
     go true g = g
     go false g = acons (record { rule = a .0 }) g
 

@@ -10,7 +10,7 @@ use mathlib.Core.List.{List, [], _∷_, _++_}
 use mathlib.Core.Option.{Option, some, none}
 use Prim.Native.Nat.{ℕ, suc, zero, _+_, _*_, _-_, _≤_}
 use native.Mathlib.Omega.{arith}
-use lib.ListN.{length, take, length-append}
+use lib.ListN.{length, take, drop, length-append}
 use Rattle.token.specs.Scan.{scan}
 use Rattle.token.specs.declared.Token.{Token}
 use Rattle.token.specs.declared.Token.the-variants as T
@@ -892,7 +892,7 @@ from-bound (c ∷ t) zero s = go (scan (c ∷ t)) (from-bound t)
         length (lexemes (cutAt a (c ∷ t) (cutsFrom t)) s) ≤ suc (length t)
     go Miss ih = omega arith
     go (Hit k n) ih =
-        let e = passed (take n (c ∷ t)) k s in
+        let e = passed (take n (c ∷ t)) k (drop n (c ∷ t)) s in
         omega (arith, kept (skipped k) (lexeme k (take n (c ∷ t)) (between s e)) (lexemes (cutsFrom t (n - 1)) e), ih (n - 1) e)
 
 pub tokens-bound : (t : List ℕ) → length (tokens t opening) ≤ length t

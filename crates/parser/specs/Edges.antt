@@ -1,26 +1,39 @@
--- Document 01's starred edges, its listing and its traps as one table.
+-- Document 01's starred edges, its listing and its traps, and document 02's edges, as one table.
 use Prim.Native.Nat.{ℕ}
 use Prim.Native.String.{String}
 use mathlib.Core.Path.{_≡_}
 use mathlib.Core.List.{List, [], _∷_}
+use lib.ListN.{getD}
 use Rattle.token.specs.Regex.{bytes}
 use Rattle.lexer.specs.Outcome.{Outcome, accepted, refused}
 use Rattle.ast.specs.Ast.{Definition}
 use Rattle.ast.specs.Records.{nodeRows, notes}
 use Rattle.parser.specs.Read.{outcome}
 
--- a text, and what a reading with room enough answers: number, place and length; or the records of nodes and of comments
+-- a text, and what a reading with room enough answers: number, place and length; or the records of nodes and of comments;
+-- or line and column of the last node record's start
 pub data Edge : Type 0 where
   refuses : String → ℕ → ℕ → ℕ → Edge
   accepts : String → List (List ℕ) → List (List ℕ) → Edge
+  lastAt : String → ℕ → ℕ → Edge
 
 abbrev pub Meets : Outcome (List Definition) → List (List ℕ) → List (List ℕ) → Type 0
 Meets (accepted ds) ns cs = (nodeRows ds ≡ ns) × (notes ds ≡ cs)
 Meets (refused e p n) ns cs = ⊥
 
+unfoldable pub lastOf : List (List ℕ) → List ℕ
+lastOf [] = []
+lastOf (r ∷ []) = r
+lastOf (r ∷ q ∷ rs) = lastOf (q ∷ rs)
+
+abbrev pub Stands : Outcome (List Definition) → ℕ → ℕ → Type 0
+Stands (accepted ds) l c = let r = lastOf (nodeRows ds) in (getD r 4 0 ≡ l) × (getD r 5 0 ≡ c)
+Stands (refused e p n) l c = ⊥
+
 abbrev pub Holds : Edge → Type 0
 Holds (refuses s e p n) = outcome (bytes s) ≡ refused e p n
 Holds (accepts s ns cs) = Meets (outcome (bytes s)) ns cs
+Holds (lastAt s l c) = Stands (outcome (bytes s)) l c
 
 abbrev pub All : List Edge → Type 0
 All [] = Unit
@@ -59,9 +72,9 @@ edges =
     ∷ refuses "//a\n;//b\n" 2 5 3
     -- `enum E{}@`: 22 at 8
     ∷ refuses "enum E{}@" 22 8 0
-    -- `\r\n` before `enum E{}`: line 3, column 1
+    -- `\r\n` before `enum E{}`: line 2, column 1 (document 02, Change 1)
     ∷ accepts "\r\nenum E{}"
-    ((6 ∷ 4294967295 ∷ 0 ∷ 2 ∷ 3 ∷ 1 ∷ 10 ∷ 3 ∷ 9 ∷ []) ∷ (16 ∷ 0 ∷ 0 ∷ 7 ∷ 3 ∷ 6 ∷ 8 ∷ 3 ∷ 7 ∷ []) ∷ [])
+    ((6 ∷ 4294967295 ∷ 0 ∷ 2 ∷ 2 ∷ 1 ∷ 10 ∷ 2 ∷ 9 ∷ []) ∷ (16 ∷ 0 ∷ 0 ∷ 7 ∷ 2 ∷ 6 ∷ 8 ∷ 2 ∷ 7 ∷ []) ∷ [])
     []
     -- `/*\r\n*/enum E{}`: the keyword is on line 2, column 3
     ∷ accepts "/*\r\n*/enum E{}"
@@ -79,4 +92,18 @@ edges =
     ((10 ∷ 4294967295 ∷ 0 ∷ 0 ∷ 1 ∷ 1 ∷ 19 ∷ 1 ∷ 20 ∷ []) ∷ (16 ∷ 0 ∷ 0 ∷ 8 ∷ 1 ∷ 9 ∷ 9 ∷ 1 ∷ 10 ∷ []) ∷ (11 ∷ 0 ∷ 0 ∷ 15 ∷ 1 ∷ 16 ∷ 18 ∷ 1 ∷ 19 ∷ []) ∷ (18 ∷ 2 ∷ 0 ∷ 10 ∷ 1 ∷ 11 ∷ 14 ∷ 1 ∷ 15 ∷ []) ∷ (16 ∷ 2 ∷ 0 ∷ 15 ∷ 1 ∷ 16 ∷ 16 ∷ 1 ∷ 17 ∷ []) ∷ [])
     []
     ∷ refuses "typedef" 3 0 7
+    -- Change 1: where the name E starts. One line end is the pair alone
+    ∷ lastAt "\n\renum E{}" 3 6
+    ∷ lastAt "\r\r\nenum E{}" 3 6
+    ∷ lastAt "\u{c}\r\nenum E{}" 3 6
+    ∷ lastAt "\r\n\r\nenum E{}" 3 6
+    -- a `\r` that no `\n` follows ends a line, also at the end of the text
+    ∷ lastAt "\renum E{}" 2 6
+    ∷ lastAt "enum E{}\r" 1 6
+    -- a line comment ends before `\n`; a string has no lines
+    ∷ lastAt "//c\r\nenum E{}" 2 6
+    ∷ lastAt "const string X='\r\n'enum E{}" 1 25
+    -- in a block comment a lone `\r` or `\f` is nothing
+    ∷ lastAt "/*\r*/enum E{}" 1 11
+    ∷ lastAt "/*\u{c}*/enum E{}" 1 11
     ∷ []

@@ -1,12 +1,12 @@
 -- A walk goes lexeme by lexeme.
 use mathlib.Core.Path.{_≡_, refl, sym, ap, _∙_}
-use mathlib.Core.Bool.{Bool, true, false}
+use mathlib.Core.Bool.{Bool, true, false, cond}
 use mathlib.Core.List.{List, [], _∷_}
 use Prim.Native.Nat.{ℕ, zero, suc, _+_, _-_, _<_, _≤_}
 use native.Mathlib.Omega.{arith}
 use borrow.Author.Tests.{lt-ltb, le-ltb, ltb-true, ltb-false}
 use lib.Dec.{ltb}
-use lib.ListN.{length, take, drop}
+use lib.ListN.{length, take, drop, take-append-drop}
 use lib.Seq.{length-take-le}
 use Rattle.token.specs.Scan.{scan}
 use Rattle.token.specs.declared.Token.{Token}
@@ -16,6 +16,8 @@ use Rattle.token.specs.declared.Scan.the-variants.{Miss, Hit}
 use Rattle.lexer.specs.declared.location.Lexer.{Lexer}
 use Rattle.lexer.specs.Location.{behind, endsLine, pass}
 use Rattle.lexer.proofs.CutLaws.{hit-fits, pass-at}
+use Rattle.token.specs.Code.{code, is}
+use Rattle.token.proofs.Pattern.{newline-one}
 use Rattle.place.specs.Place.{kindOf, lengthOf, walk, least, step}
 
 pub least-lt : (a b : ℕ) → a < b → least a b ≡ a
@@ -70,30 +72,30 @@ walk-enter [] k m s l h e = absurd (omega arith)
 walk-enter (c ∷ w) k zero s l h e = refl
 walk-enter (c ∷ w) k (suc m) s l h e =
     let f : lengthOf (scan (c ∷ w)) - 1 ≡ l = omega (arith, e) in
-    ap (λ (x : ℕ). walk w (kindOf (scan (c ∷ w))) x m (behind (endsLine (kindOf (scan (c ∷ w))) c) s)) f
+    ap (λ (x : ℕ). walk w (kindOf (scan (c ∷ w))) x m (behind (endsLine (kindOf (scan (c ∷ w))) c w) s)) f
 
 -- to the lexeme's end
-walk-whole : (t : List ℕ) (k : Token) (n m : ℕ) (s : Lexer) → n ≤ m → n ≤ length t → walk t k n m s ≡ walk (drop n t) k 0 (m - n) (pass (take n t) k s)
+walk-whole : (t : List ℕ) (k : Token) (n m : ℕ) (s : Lexer) → n ≤ m → n ≤ length t → walk t k n m s ≡ walk (drop n t) k 0 (m - n) (pass (take n t) k (drop n t) s)
 unfolding walk pass
 walk-whole t k zero m s h l = let e : m - 0 ≡ m = omega arith in rw e
 walk-whole [] k (suc n) m s h l = absurd (omega arith)
 walk-whole (c ∷ w) k (suc n) zero s h l = absurd (omega arith)
 walk-whole (c ∷ w) k (suc n) (suc m) s h l =
     let e : suc m - suc n ≡ m - n = omega arith in
-    rw e (walk-whole w k n m (behind (endsLine k c) s) (omega arith) (omega arith))
+    rw (e, take-append-drop n w) (walk-whole w k n m (behind (endsLine k c w) s) (omega arith) (omega arith))
 
 -- not so far
-walk-within : (t : List ℕ) (k : Token) (n m : ℕ) (s : Lexer) → m ≤ n → m ≤ length t → walk t k n m s ≡ pass (take m t) k s
+walk-within : (t : List ℕ) (k : Token) (n m : ℕ) (s : Lexer) → m ≤ n → m ≤ length t → walk t k n m s ≡ pass (take m t) k (drop m t) s
 unfolding walk pass
 walk-within [] k n zero s h l = refl
 walk-within (c ∷ w) k n zero s h l = refl
 walk-within [] k n (suc m) s h l = absurd (omega arith)
 walk-within (c ∷ w) k zero (suc m) s h l = absurd (omega arith)
-walk-within (c ∷ w) k (suc n) (suc m) s h l = walk-within w k n m (behind (endsLine k c) s) (omega arith) (omega arith)
+walk-within (c ∷ w) k (suc n) (suc m) s h l = rw (take-append-drop m w) (walk-within w k n m (behind (endsLine k c w) s) (omega arith) (omega arith))
 
 -- one step, of n bytes
 Steps : List ℕ → ℕ → Lexer → ℕ → Type 0
-Steps t m s n = walk t T.Blank 0 m s ≡ walk (drop n t) T.Blank 0 (m - n) (pass (take n t) (kindOf (scan t)) s)
+Steps t m s n = walk t T.Blank 0 m s ≡ walk (drop n t) T.Blank 0 (m - n) (pass (take n t) (kindOf (scan t)) (drop n t) s)
 
 by-length : (t : List ℕ) (m : ℕ) (s : Lexer) (l : ℕ) → 0 < length t → lengthOf (scan t) ≡ suc l → m ≤ length t
     → (b : Bool) → ltb (suc l) m ≡ b → Steps t m s (least (suc l) m)
@@ -104,7 +106,7 @@ by-length t m s l h e g true b =
     rw (least-lt (suc l) m f)
     (walk-enter t T.Blank m s l h e
     ∙ walk-whole t k (suc l) m s (omega (arith, f)) (omega (arith, f, g))
-    ∙ walk-kind (drop (suc l) t) k T.Blank (m - suc l) (pass (take (suc l) t) k s))
+    ∙ walk-kind (drop (suc l) t) k T.Blank (m - suc l) (pass (take (suc l) t) k (drop (suc l) t) s))
 by-length t m s l h e g false b =
     let f = ltb-false (suc l) m b in
     let k = kindOf (scan t) in
@@ -112,7 +114,7 @@ by-length t m s l h e g false b =
     rw (least-le (suc l) m f, z)
     (walk-enter t T.Blank m s l h e
     ∙ walk-within t k (suc l) m s f g
-    ∙ sym (walk-none (drop m t) T.Blank 0 (pass (take m t) k s)))
+    ∙ sym (walk-none (drop m t) T.Blank 0 (pass (take m t) k (drop m t) s)))
 
 by-first : (t : List ℕ) (m : ℕ) (s : Lexer) → 0 < length t → m ≤ length t → (l : ℕ) → lengthOf (scan t) ≡ l → Steps t m s (least (lengthOf (scan t)) m)
 by-first t m s h g zero e = absurd (omega (arith, e, fits t h .0))
@@ -131,10 +133,23 @@ pub step-at : (t : List ℕ) (m : ℕ) (s : Lexer) → 0 < m → m ≤ length t 
 unfolding step
 step-at t m s h g =
     let n = least (lengthOf (scan t)) m in
-    pass-at (take n t) (kindOf (scan t)) s
+    pass-at (take n t) (kindOf (scan t)) (drop n t) s
     ∙ ap (λ (x : ℕ). s .at + x) (length-take-le n t (omega (arith, g, step-length t m h g .1)))
 
 pub walk-step : (t : List ℕ) (m : ℕ) (s : Lexer) → 0 < m → m ≤ length t
     → walk t T.Blank 0 m s ≡ walk (drop (least (lengthOf (scan t)) m) t) T.Blank 0 (m - least (lengthOf (scan t)) m) (step t m s)
 unfolding step Steps
 walk-step t m s h g = by-first t m s (omega arith) g (lengthOf (scan t)) refl
+
+-- a line end is passed whole
+one-by : (t : List ℕ) (m : ℕ) → 0 < m → (r : Scan) → scan t ≡ r → is (kindOf r) T.Newline ≡ true → least (lengthOf r) m ≡ 1
+unfolding kindOf lengthOf is code least
+one-by t m h Miss e i = let z : _≡_ {A = ℕ} 0 1 = cc in absurd (omega arith)
+one-by t m h (Hit k n) e i = rw (newline-one t k n e i) (go (ltb 1 m) refl)
+  where
+    go : (b : Bool) → ltb 1 m ≡ b → cond b 1 m ≡ 1
+    go true f = refl
+    go false f = omega (arith, ltb-false 1 m f)
+
+pub one-passed : (t : List ℕ) (m : ℕ) → 0 < m → is (kindOf (scan t)) T.Newline ≡ true → least (lengthOf (scan t)) m ≡ 1
+one-passed t m h i = one-by t m h (scan t) refl i

@@ -3,7 +3,7 @@ use Prim.Native.Nat.{ℕ, zero, suc, _-_}
 use mathlib.Core.Bool.{cond}
 use mathlib.Core.List.{List, [], _∷_}
 use lib.Dec.{ltb}
-use lib.ListN.{length, take}
+use lib.ListN.{length, take, drop}
 use Rattle.token.specs.Scan.{scan}
 use Rattle.token.specs.declared.Token.{Token}
 use Rattle.token.specs.declared.Token.the-variants as T
@@ -27,8 +27,8 @@ lengthOf (Hit k n) = n
 unfoldable pub walk : List ℕ → Token → ℕ → ℕ → Lexer → Lexer
 walk [] k n m s = s
 walk (c ∷ w) k n zero s = s
-walk (c ∷ w) k (suc n) (suc m) s = walk w k n m (behind (endsLine k c) s)
-walk (c ∷ w) k zero (suc m) s = walk w (kindOf (scan (c ∷ w))) (lengthOf (scan (c ∷ w)) - 1) m (behind (endsLine (kindOf (scan (c ∷ w))) c) s)
+walk (c ∷ w) k (suc n) (suc m) s = walk w k n m (behind (endsLine k c w) s)
+walk (c ∷ w) k zero (suc m) s = walk w (kindOf (scan (c ∷ w))) (lengthOf (scan (c ∷ w)) - 1) m (behind (endsLine (kindOf (scan (c ∷ w))) c w) s)
 
 unfoldable pub least : ℕ → ℕ → ℕ
 least a b = cond (ltb a b) a b
@@ -39,4 +39,4 @@ placeOf t o = spanOf (walk t T.Blank 0 (least o (least (length t) limit)) openin
 
 -- for the code: the lexer behind what a text starts with, at most m bytes of it
 unfoldable pub step : List ℕ → ℕ → Lexer → Lexer
-step t m s = pass (take (least (lengthOf (scan t)) m) t) (kindOf (scan t)) s
+step t m s = let n = least (lengthOf (scan t)) m in pass (take n t) (kindOf (scan t)) (drop n t) s

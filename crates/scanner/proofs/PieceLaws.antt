@@ -125,7 +125,7 @@ piece-again t at =
 -- the lexer behind n bytes
 moved : (t : List ℕ) (s : Lexer) (k : Token) (n : ℕ) → scan (drop (s .at) t) ≡ Hit k n → behind t s k n .at ≡ s .at + n
 unfolding behind
-moved t s k n e = pass-at (take n (drop (s .at) t)) k s ∙ omega (arith, length-take-le n (drop (s .at) t) (hit-fits (drop (s .at) t) k n e .1))
+moved t s k n e = pass-at (take n (drop (s .at) t)) k (drop n (drop (s .at) t)) s ∙ omega (arith, length-take-le n (drop (s .at) t) (hit-fits (drop (s .at) t) k n e .1))
 
 -- the piece f at an offset is the lexer's next token, for each lexer there
 Is-next : List ℕ → ℕ → Piece → Type 0

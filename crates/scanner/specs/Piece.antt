@@ -14,7 +14,7 @@ use Rattle.scanner.specs.declared.What.the-variants as W
 unfoldable pub pieceOf : Cuts → ℕ → Piece
 pieceOf end at = record { what = W.End; start = at; end = at }
 pieceOf stuck at = record { what = W.Unrecognized; start = at; end = at }
-pieceOf (cut k w cs) at = cond (skipped k) (pieceOf cs (at + length w)) (record { what = W.Token k; start = at; end = at + length w })
+pieceOf (cut k w r cs) at = cond (skipped k) (pieceOf cs (at + length w)) (record { what = W.Token k; start = at; end = at + length w })
 
 -- the first token of the text t from the offset `at` on. Behind the end nothing is left
 unfoldable pub pieceAt : List ℕ → ℕ → Piece

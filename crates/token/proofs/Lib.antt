@@ -13,3 +13,4 @@ pub mod Meaning
 pub mod Stable
 pub mod Examples
 pub mod Keyword
+pub mod Pattern

@@ -1,10 +1,12 @@
 -- The patterns of rico's lexer/token.rs, one by one, each with its kind.
 use Prim.Native.Nat.{ℕ}
 use Prim.Native.String.{String}
+use mathlib.Core.Bool.{cond}
 use mathlib.Core.List.{List, [], _∷_, _++_, map}
 use Rattle.token.specs.declared.Token.{Token}
 use Rattle.token.specs.declared.Token.the-variants as T
-use Rattle.token.specs.Regex.{Range, Regex, empty, set, unset, alt, star, then, bytes, ranges}
+use Rattle.token.specs.Code.{is}
+use Rattle.token.specs.Regex.{Range, Regex, nothing, empty, set, unset, alt, star, then, bytes, ranges}
 
 pub data Rule : Type 0 where
   rule : Token → Regex → Rule
@@ -149,3 +151,8 @@ rest = map wordRule marks ++ shapes
 
 unfoldable pub rules : List Rule
 rules = map wordRule words ++ rest
+
+-- the pattern of a kind
+unfoldable pub patternOf : Token → List Rule → Regex
+patternOf k [] = nothing
+patternOf k (rule q r ∷ rs) = cond (is k q) r (patternOf k rs)

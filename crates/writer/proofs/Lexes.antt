@@ -51,11 +51,11 @@ free : (cs : Cuts) (s u : Lexer) → bares (lexemes cs s) ≡ bares (lexemes cs 
 unfolding lexemes bares bareL
 free end s u = refl
 free stuck s u = refl
-free (cut k w cs) s u = go (skipped k) (between s (pass w k s)) (between u (pass w k u)) (free cs (pass w k s) (pass w k u))
+free (cut k w r cs) s u = go (skipped k) (between s (pass w k r s)) (between u (pass w k r u)) (free cs (pass w k r s) (pass w k r u))
   where
-    go : (b : Bool) (p q : LOC) → bares (lexemes cs (pass w k s)) ≡ bares (lexemes cs (pass w k u))
-        → bares (cond b (lexemes cs (pass w k s)) (lexeme k w p ∷ lexemes cs (pass w k s)))
-        ≡ bares (cond b (lexemes cs (pass w k u)) (lexeme k w q ∷ lexemes cs (pass w k u)))
+    go : (b : Bool) (p q : LOC) → bares (lexemes cs (pass w k r s)) ≡ bares (lexemes cs (pass w k r u))
+        → bares (cond b (lexemes cs (pass w k r s)) (lexeme k w p ∷ lexemes cs (pass w k r s)))
+        ≡ bares (cond b (lexemes cs (pass w k r u)) (lexeme k w q ∷ lexemes cs (pass w k r u)))
     go true p q e = e
     go false p q e = ap (λ (l : List Lexeme). lexeme k w nowhere ∷ l) e
 
@@ -63,7 +63,7 @@ shift : (cs : Cuts) (a b : ℕ) → unrecognized cs a ≡ none → unrecognized 
 unfolding unrecognized
 shift end a b e = refl
 shift stuck a b e = cc
-shift (cut k w cs) a b e = shift cs (a + length w) (b + length w) e
+shift (cut k w r cs) a b e = shift cs (a + length w) (b + length w) e
 
 -- ---- what the cuts of a text give
 
@@ -75,22 +75,22 @@ gives-end : Gives end []
 unfolding lexemes bares unrecognized
 gives-end = record { reads = λ s. refl; passes = λ a. refl }
 
-module _ (k : Token) (w : List ℕ) (cs : Cuts) (ts : List Lexeme) where
-  gives-token : skipped k ≡ false → Gives cs ts → Gives (cut k w cs) (lexeme k w nowhere ∷ ts)
+module _ (k : Token) (w r : List ℕ) (cs : Cuts) (ts : List Lexeme) where
+  gives-token : skipped k ≡ false → Gives cs ts → Gives (cut k w r cs) (lexeme k w nowhere ∷ ts)
   unfolding lexemes bares bareL unrecognized
   gives-token e g = record {
-    reads = λ s. rw e (ap (λ (l : List Lexeme). lexeme k w nowhere ∷ l) (g .reads (pass w k s)));
+    reads = λ s. rw e (ap (λ (l : List Lexeme). lexeme k w nowhere ∷ l) (g .reads (pass w k r s)));
     passes = λ a. g .passes (a + length w);
   }
 
-  gives-blank : skipped k ≡ true → Gives cs ts → Gives (cut k w cs) ts
+  gives-blank : skipped k ≡ true → Gives cs ts → Gives (cut k w r cs) ts
   unfolding lexemes unrecognized
-  gives-blank e g = record { reads = λ s. rw e (g .reads (pass w k s)); passes = λ a. g .passes (a + length w) }
+  gives-blank e g = record { reads = λ s. rw e (g .reads (pass w k r s)); passes = λ a. g .passes (a + length w) }
 
-  gives-behind : skipped k ≡ true → Gives (cut k w cs) ts → Gives cs ts
+  gives-behind : skipped k ≡ true → Gives (cut k w r cs) ts → Gives cs ts
   unfolding lexemes unrecognized
   gives-behind e g = record {
-    reads = λ s. free cs s (pass w k s) ∙ rw e at (g .reads s);
+    reads = λ s. free cs s (pass w k r s) ∙ rw e at (g .reads s);
     passes = λ a. shift cs (0 + length w) a (g .passes 0);
   }
 
@@ -132,12 +132,12 @@ blank-skipped = refl
 blank-gives : (c : ℕ) (t : List ℕ) (ts : List Lexeme) → classOf c ≡ 59 → Bytes (c ∷ t) → Gives (cuts t) ts → Gives (cuts (c ∷ t)) ts
 blank-gives c t ts e h g =
     rw (cuts-hit (c ∷ t) T.Blank (suc (run t)) (blank-scan c t e h))
-    (gives-blank T.Blank (take (suc (run t)) (c ∷ t)) (cuts (drop (suc (run t)) (c ∷ t))) ts blank-skipped (behind t (h .1) g))
+    (gives-blank T.Blank (take (suc (run t)) (c ∷ t)) (drop (suc (run t)) (c ∷ t)) (cuts (drop (suc (run t)) (c ∷ t))) ts blank-skipped (behind t (h .1) g))
   where
     more : (d : ℕ) (u : List ℕ) (b : Bool) → eqb (classOf d) 59 ≡ b → Bytes (d ∷ u) → Gives (cuts (d ∷ u)) ts
         → Gives (cuts (drop (suc (cond b (suc (run u)) 0)) (c ∷ d ∷ u))) ts
     more d u true f l g =
-        gives-behind T.Blank (take (suc (run u)) (d ∷ u)) (cuts (drop (suc (run u)) (d ∷ u))) ts blank-skipped
+        gives-behind T.Blank (take (suc (run u)) (d ∷ u)) (drop (suc (run u)) (d ∷ u)) (cuts (drop (suc (run u)) (d ∷ u))) ts blank-skipped
         (rw (cuts-hit (d ∷ u) T.Blank (suc (run u)) (blank-scan d u (eqb-true (classOf d) 59 f) l)) at g)
     more d u false f l g = g
 
@@ -149,7 +149,7 @@ blank-gives c t ts e h g =
 
 token-gives : (k : Token) (w r : List ℕ) (ts : List Lexeme) → skipped k ≡ false → scan (w ++ r) ≡ Hit k (length w) → Gives (cuts r) ts
     → Gives (cuts (w ++ r)) (lexeme k w nowhere ∷ ts)
-token-gives k w r ts s e g = rw (cuts-hit (w ++ r) k (length w) e, take-append-seam w r, drop-append-seam w r) (gives-token k w (cuts r) ts s g)
+token-gives k w r ts s e g = rw (cuts-hit (w ++ r) k (length w) e, take-append-seam w r, drop-append-seam w r) (gives-token k w r (cuts r) ts s g)
 
 word-gives : (k : Token) (w r : List ℕ) (ts : List Lexeme) → Good k w → Stops k r → Gives (cuts r) ts → Gives (cuts (w ++ r)) (lexeme k w nowhere ∷ ts)
 word-gives k w r ts h st g = token-gives k w r ts (h .solid) (stable w [] r k (h .bytes) (rw append-nil (h .scanned)) st) g
@@ -184,7 +184,7 @@ line-scan r h = fixed (10 ∷ []) r T.Newline tt refl (any-ends T.Newline r refl
 
 line-gives : (r : List ℕ) (ts : List Lexeme) → Bytes r → Gives (cuts r) ts → Gives (cuts (10 ∷ r)) ts
 unfolding skipped is code
-line-gives r ts h g = rw (cuts-hit (10 ∷ r) T.Newline 1 (line-scan r h)) (gives-blank T.Newline (10 ∷ []) (cuts r) ts refl g)
+line-gives r ts h g = rw (cuts-hit (10 ∷ r) T.Newline 1 (line-scan r h)) (gives-blank T.Newline (10 ∷ []) r (cuts r) ts refl g)
 
 space-class : classOf 32 ≡ 59
 unfolding classOf classes

