@@ -74,6 +74,12 @@ walk-enter (c ∷ w) k (suc m) s l h e =
     let f : lengthOf (scan (c ∷ w)) - 1 ≡ l = omega (arith, e) in
     ap (λ (x : ℕ). walk w (kindOf (scan (c ∷ w))) x m (behind (endsLine (kindOf (scan (c ∷ w))) c w) s)) f
 
+-- the first of the bytes that are passed
+pass-first : (c : ℕ) (w : List ℕ) (k : Token) (n : ℕ) (s : Lexer)
+    → pass (take (suc n) (c ∷ w)) k (drop (suc n) (c ∷ w)) s ≡ pass (take n w) k (drop n w) (behind (endsLine k c w) s)
+unfolding pass
+pass-first c w k n s = ap (λ (x : List ℕ). pass (take n w) k (drop n w) (behind (endsLine k c x) s)) (take-append-drop n w)
+
 -- to the lexeme's end
 walk-whole : (t : List ℕ) (k : Token) (n m : ℕ) (s : Lexer) → n ≤ m → n ≤ length t → walk t k n m s ≡ walk (drop n t) k 0 (m - n) (pass (take n t) k (drop n t) s)
 unfolding walk pass
@@ -82,7 +88,7 @@ walk-whole [] k (suc n) m s h l = absurd (omega arith)
 walk-whole (c ∷ w) k (suc n) zero s h l = absurd (omega arith)
 walk-whole (c ∷ w) k (suc n) (suc m) s h l =
     let e : suc m - suc n ≡ m - n = omega arith in
-    rw (e, take-append-drop n w) (walk-whole w k n m (behind (endsLine k c w) s) (omega arith) (omega arith))
+    rw e (walk-whole w k n m (behind (endsLine k c w) s) (omega arith) (omega arith) ∙ ap (walk (drop n w) k 0 (m - n)) (sym (pass-first c w k n s)))
 
 -- not so far
 walk-within : (t : List ℕ) (k : Token) (n m : ℕ) (s : Lexer) → m ≤ n → m ≤ length t → walk t k n m s ≡ pass (take m t) k (drop m t) s
@@ -91,7 +97,8 @@ walk-within [] k n zero s h l = refl
 walk-within (c ∷ w) k n zero s h l = refl
 walk-within [] k n (suc m) s h l = absurd (omega arith)
 walk-within (c ∷ w) k zero (suc m) s h l = absurd (omega arith)
-walk-within (c ∷ w) k (suc n) (suc m) s h l = rw (take-append-drop m w) (walk-within w k n m (behind (endsLine k c w) s) (omega arith) (omega arith))
+walk-within (c ∷ w) k (suc n) (suc m) s h l =
+    walk-within w k n m (behind (endsLine k c w) s) (omega arith) (omega arith) ∙ sym (pass-first c w k m s)
 
 -- one step, of n bytes
 Steps : List ℕ → ℕ → Lexer → ℕ → Type 0
