@@ -3,7 +3,7 @@
 --     same-outcome   and so has every definition
 --     alike-tokens   in every text the tokens have the same kinds, bytes and indexes
 use mathlib.Core.Path.{_≡_, refl, sym, ap, _∙_}
-use mathlib.Core.Bool.{Bool, true, false, cond, not, _&&_, and-eq-true-iff, or-false}
+use mathlib.Core.Bool.{Bool, true, false, cond, not, _&&_, and-true, and-eq-true-iff}
 use mathlib.Core.List.{List, [], _∷_, _++_}
 use Prim.Native.Nat.{ℕ, zero, suc, _+_, _≤_}
 use native.Mathlib.Omega.{arith}
@@ -17,15 +17,15 @@ use Rattle.token.specs.declared.Scan.the-variants.{Miss, Hit}
 use Rattle.lexer.specs.declared.location.Lexer.{Lexer}
 use Rattle.lexer.specs.Outcome.{Outcome, accepted, refused}
 use Rattle.lexer.specs.Cuts.{Cuts, end, stuck, cut, cuts}
-use Rattle.lexer.specs.Location as Here
+use Rattle.lexer.specs.Location as L
 use Rattle.lexer.specs.Location.{pair, behind, between, spanOf, opening}
-use Rattle.lexer.specs.Tokens as Here
+use Rattle.lexer.specs.Tokens as K
 use Rattle.lexer.specs.Tokens.{Lexeme, lexeme, skipped}
 use Rattle.lexer.specs.Check.{checked}
 use Rattle.lexer.proofs.PlaceLaws.{behind-at}
 use Rattle.lexer.proofs.CutLaws as CutLaws
 use Rattle.lexer.proofs.CutLaws.{hit-fits, cuts-nil, cuts-miss, cuts-hit}
-use Rattle.parser.specs.Read as Here
+use Rattle.parser.specs.Read as R
 use Rattle.rico.specs.Lines.{endsLine, pass, lexemes, tokens, outcomeBy, outcome, unpaired}
 
 -- ---- the cuts of a text are its parts
@@ -35,16 +35,23 @@ Parts end t = Unit
 Parts stuck t = Unit
 Parts (cut k w r cs) t = (w ++ r ≡ t) × Parts cs r
 
-parts-from : (m : ℕ) (t : List ℕ) → length t ≤ m → Parts (cuts t) t
-parts-from m [] h = rw cuts-nil tt
-parts-from zero (c ∷ t) h = absurd (omega arith)
-parts-from (suc m) (c ∷ t) h = go (scan (c ∷ t)) refl (parts-from m)
+parts-step : (m : ℕ) (t : List ℕ) → ((u : List ℕ) → length u ≤ m → Parts (cuts u) u) → length t ≤ suc m → Parts (cuts t) t
+parts-step m [] ih h = rw cuts-nil tt
+parts-step m (c ∷ t) ih h = go (scan (c ∷ t)) refl
   where
-    go : (s : Scan) → scan (c ∷ t) ≡ s → ((u : List ℕ) → length u ≤ m → Parts (cuts u) u) → Parts (cuts (c ∷ t)) (c ∷ t)
-    go Miss e ih = rw (cuts-miss (c ∷ t) (omega arith) e) tt
-    go (Hit k n) e ih =
+    go : (s : Scan) → scan (c ∷ t) ≡ s → Parts (cuts (c ∷ t)) (c ∷ t)
+    go Miss e = rw (cuts-miss (c ∷ t) (omega arith) e) tt
+    go (Hit k n) e =
         rw (cuts-hit (c ∷ t) k n e)
         (take-append-drop n (c ∷ t), ih (drop n (c ∷ t)) (omega (arith, length-drop n (c ∷ t), hit-fits (c ∷ t) k n e .0)))
+
+parts-nil : (t : List ℕ) → length t ≤ 0 → Parts (cuts t) t
+parts-nil [] h = rw cuts-nil tt
+parts-nil (c ∷ t) h = absurd (omega arith)
+
+parts-from : (m : ℕ) (t : List ℕ) → length t ≤ m → Parts (cuts t) t
+parts-from zero t h = parts-nil t h
+parts-from (suc m) t h = parts-step m t (parts-from m) h
 
 parts : (t : List ℕ) → Parts (cuts t) t
 parts t = parts-from (length t) t (omega arith)
@@ -63,23 +70,19 @@ unpaired-right : (w r : List ℕ) → unpaired (w ++ r) ≡ true → unpaired r 
 unpaired-right [] r e = e
 unpaired-right (b ∷ w) r e = unpaired-right w r (unpaired-first b (w ++ r) e .1)
 
-same-ends : (k : Token) (b : ℕ) (r : List ℕ) → pair b r ≡ false → Here.endsLine k b r ≡ endsLine k b
-unfolding Here.endsLine endsLine
-same-ends k b r e = rw e (go (is k T.Newline))
-  where
-    go : (p : Bool) {q : Bool} → (p && true || q) ≡ (p || q)
-    go true = refl
-    go false = refl
+same-ends : (k : Token) (b : ℕ) (r : List ℕ) → pair b r ≡ false → L.endsLine k b r ≡ endsLine k b
+unfolding L.endsLine endsLine
+same-ends k b r e = rw (e, and-true (is k T.Newline))
 
-same-pass : (w : List ℕ) (k : Token) (r : List ℕ) (s : Lexer) → unpaired (w ++ r) ≡ true → Here.pass w k r s ≡ pass w k s
-unfolding Here.pass pass
+same-pass : (w : List ℕ) (k : Token) (r : List ℕ) (s : Lexer) → unpaired (w ++ r) ≡ true → L.pass w k r s ≡ pass w k s
+unfolding L.pass pass
 same-pass [] k r s e = refl
 same-pass (b ∷ w) k r s e =
     let h = unpaired-first b (w ++ r) e in
     rw (same-ends k b (w ++ r) (h .0)) (same-pass w k r (behind (endsLine k b) s) (h .1))
 
-same-lexemes : (cs : Cuts) (t : List ℕ) (s : Lexer) → Parts cs t → unpaired t ≡ true → Here.lexemes cs s ≡ lexemes cs s
-unfolding Here.lexemes lexemes
+same-lexemes : (cs : Cuts) (t : List ℕ) (s : Lexer) → Parts cs t → unpaired t ≡ true → K.lexemes cs s ≡ lexemes cs s
+unfolding K.lexemes lexemes
 same-lexemes end t s p e = refl
 same-lexemes stuck t s p e = refl
 same-lexemes (cut k w r cs) t s p e =
@@ -87,17 +90,17 @@ same-lexemes (cut k w r cs) t s p e =
     rw (same-pass w k r s f, same-lexemes cs r (pass w k s) (p .1) (unpaired-right w r f))
 
 module _ (t : List ℕ) (e : unpaired t ≡ true) where
-  pub same-tokens : Here.tokens t opening ≡ tokens t
-  unfolding Here.tokens tokens opening
+  pub same-tokens : K.tokens t opening ≡ tokens t
+  unfolding K.tokens tokens opening
   same-tokens = same-lexemes (cuts t) t _ (parts t) e
 
-  same-by : (c : Outcome (List ℕ)) → Here.outcomeBy c t ≡ outcomeBy c t
-  unfolding Here.outcomeBy Here.parsed outcomeBy
+  same-by : (c : Outcome (List ℕ)) → R.outcomeBy c t ≡ outcomeBy c t
+  unfolding R.outcomeBy R.parsed outcomeBy
   same-by (accepted ns) = rw same-tokens
   same-by (refused n p l) = refl
 
-  pub same-outcome : Here.outcome t ≡ outcome t
-  unfolding Here.outcome outcome
+  pub same-outcome : R.outcome t ≡ outcome t
+  unfolding R.outcome outcome
   same-outcome = same-by (checked t)
 
 -- ---- every text
