@@ -2,8 +2,9 @@
 --     next-blank    a blank is passed
 --     next-line     a line end is passed
 --     next-mark     a token of one byte, or none
+--     token-no-line   no line end, by another class
 use mathlib.Core.Path.{_≡_, refl, sym, ap, _∙_}
-use mathlib.Core.Bool.{Bool, true, false, cond, not, _&&_, _||_, and-eq-true-iff}
+use mathlib.Core.Bool.{Bool, true, false, cond, not, _&&_, _||_, and-eq-true-iff, false≢true}
 use mathlib.Core.List.{List, [], _∷_}
 use Prim.Native.Nat.{ℕ, suc, _+_, _<_, _≤_}
 use native.Mathlib.Omega.{arith}
@@ -11,7 +12,8 @@ use native.Mathlib.Numerals.{add-one}
 use borrow.Author.Tests.{le-ltb, ltb-true}
 use lib.Dec.{T, eqb, ltb, eqb→eq}
 use lib.ListN.{length, take, drop, getD}
-use lib.Seq.{drop-cons}
+use lib.Seq.{drop-cons, getD-drop}
+use native.Mathlib.Nat.{add-zero}
 use Rattle.token.specs.Code.{code, is}
 use Rattle.token.specs.Scan.{scan}
 use Rattle.token.specs.Tables.{classes}
@@ -24,6 +26,7 @@ use Rattle.token.specs.declared.Scan.the-variants.{Miss, Hit}
 use Rattle.token.proofs.Every.{every, at, both, both-left, both-right}
 use Rattle.token.proofs.Truth.{T-true}
 use Rattle.token.proofs.Classes.{classes-length, class-below}
+use Rattle.token.proofs.Pattern.{newline-class}
 use Rattle.scan.proofs.FirstByte.{mark-at, line-at}
 use Rattle.lexer.specs.declared.location.Lexer.{Lexer}
 use Rattle.lexer.specs.declared.location.Next.{Next}
@@ -60,6 +63,20 @@ module _ (t : List ℕ) (s : Lexer) (bytes : (j : ℕ) → getD t j 0 < 256) (h 
       → next t s ≡ next t (behind (endsLine T.Newline (getD t (s .at) 0) (drop (s .at + 1) t)) s)
   unfolding skipped is code
   next-line k e l = next-hit t s T.Newline 1 (line-at t (s .at) bytes h k e l) _ (sym (passed-one T.Newline))
+
+-- what starts with a byte of another class is no line end
+refuted : (b : Bool) → (b ≡ true → ⊥) → b ≡ false
+refuted true h = absurd (h refl)
+refuted false h = refl
+
+module _ (t : List ℕ) (i : ℕ) (bytes : (j : ℕ) → getD t j 0 < 256) where
+  pub token-no-line : (k : ℕ) → k ≡ classOf (getD t i 0) → (eqb k 39 || eqb k 40) ≡ false → (q : Token) (n : ℕ) → scan (drop i t) ≡ Hit q n → is q T.Newline ≡ false
+  token-no-line k e l q n h =
+      refuted (is q T.Newline)
+      (λ z.
+      let f : getD (drop i t) 0 0 ≡ getD t i 0 = getD-drop i t 0 0 ∙ rw add-zero in
+      let y = newline-class (drop i t) q n (rw f (bytes i)) h z in
+      false≢true (sym l ∙ rw (f, ← e) at y))
 
 -- a token of one byte that is not passed over and ends no line, or none
 plain : Scan → Bool

@@ -25,6 +25,9 @@ use Rattle.lexer.specs.Tokens.{skipped, nextOf, next}
 pub hit-fits : (t : List ℕ) (k : Token) (n : ℕ) → scan t ≡ Hit k n → (0 < n) × (n ≤ length t)
 hit-fits t k n e = let h : Longest t (Hit k n) = subst (Longest t) e (scan-longest t) in (h .0, h .1)
 
+pub slice : (t : List ℕ) (at n : ℕ) → take (at + n - at) (drop at t) ≡ take n (drop at t)
+slice t at n = let e : at + n - at ≡ n = omega arith in rw e
+
 -- ---- cuts
 
 cuts-skip : (w : List ℕ) (n : ℕ) → cutsFrom w n ≡ cutsFrom (drop n w) 0

@@ -73,16 +73,14 @@ pass-plain (b ∷ w) k r s e f =
     rw (e, f) (pass-plain w k r (record { at = s .at + 1; line = s .line; origin = s .origin }) e f
     ∙ ap (λ (n : ℕ). record { at = n; line = s .line; origin = s .origin }) (omega arith))
 
--- ---- a block comment: what is behind it does not count
+-- ---- a lexeme that is no line end: what is behind it does not count
 
-pub block-line : (b : ℕ) (r : List ℕ) → endsLine T.BlockComment b r ≡ eqb b 10
-unfolding endsLine is code
-block-line b r = refl
+pub pass-behind : (w : List ℕ) (k : Token) (r q : List ℕ) (s : Lexer) → is k T.Newline ≡ false → pass w k r s ≡ pass w k q s
+unfolding pass endsLine
+pass-behind [] k r q s e = refl
+pass-behind (b ∷ w) k r q s e = rw e (pass-behind w k r q (behind (is k T.BlockComment && eqb b 10) s) e)
 
-pub block-behind : (w r q : List ℕ) (s : Lexer) → pass w T.BlockComment r s ≡ pass w T.BlockComment q s
-unfolding pass
-block-behind [] r q s = refl
-block-behind (b ∷ w) r q s = rw (block-line b (w ++ r), block-line b (w ++ q)) (block-behind w r q (behind (eqb b 10) s))
+-- ---- a block comment
 
 block-append : (u : List ℕ) (b : ℕ) (s : Lexer) → pass (u ++ b ∷ []) T.BlockComment [] s ≡ behind (eqb b 10) (pass u T.BlockComment [] s)
 unfolding pass endsLine is code

@@ -84,7 +84,8 @@ pub fn next_token(lut: &[u8; 768], text: &[u8], lexer: Lexer) -> Next
             let Scan::Hit(token, n) = found else {
                 return Next::Unrecognized(from.at);
             };
-            let behind = location::pass_lexeme(token, &text[at..], n, from);
+            let end = at + n;
+            let behind = location::pass_lexeme(token, &text[at..end], from);
             if skipped(token) {
                 from = behind;
             } else {

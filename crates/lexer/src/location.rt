@@ -2,9 +2,9 @@
 use token::Token;
 ghost use mathlib.Core.Path.{_≡_};
 ghost use Prim.Native.Nat.{_+_, _<_, _≤_};
-ghost use mathlib.Core.Bool.{true};
+ghost use mathlib.Core.Bool.{false};
 ghost use mathlib.Core.List.{[]};
-ghost use lib.ListN.{length, getD, take, drop};
+ghost use lib.ListN.{length, getD, drop};
 ghost use Rattle.token.specs.Code.{is};
 ghost use Rattle.token.specs.declared.Token.the-variants as T;
 ghost use Rattle.lexer.specs.Limit.{limit};
@@ -127,20 +127,17 @@ fn pass_block(comment: &[u8], lexer: Lexer) -> Lexer
     now
 }
 
-// The lexer behind a lexeme, the first n bytes of the text ahead. A line end has one byte.
-pub fn pass_lexeme(token: Token, ahead: &[u8], n: usize, lexer: Lexer) -> Lexer
-    requires { ⌜ Placed lexer × (0 < n) × (n ≤ length (now ahead)) × (lexer .at + n ≤ limit) × (is token T.Newline ≡ true → n ≡ 1) ⌝ }
-    ensures { λ r. ⌜ r ≡ pass (take n (now (ahead .entry))) token (drop n (now (ahead .entry))) lexer ⌝ }
+// The lexer behind a lexeme that is no line end.
+pub fn pass_lexeme(token: Token, bytes: &[u8], lexer: Lexer) -> Lexer
+    requires { ⌜ Placed lexer × (lexer .at + length (now bytes) ≤ limit) × (is token T.Newline ≡ false) ⌝ }
+    ensures { λ r. ⌜ r ≡ pass (now (bytes .entry)) token [] lexer ⌝ }
 {
     let code = token.code();
     if code == token::kind::BLOCK_COMMENT {
-        return pass_block(&ahead[..n], lexer);
-    }
-    if code == token::kind::NEWLINE {
-        return behind(lexer, ends_line(ahead, 0));
+        return pass_block(bytes, lexer);
     }
     Lexer {
-        at: lexer.at + n as u32,
+        at: lexer.at + bytes.len() as u32,
         line: lexer.line,
         origin: lexer.origin,
     }

@@ -6,7 +6,7 @@ use Prim.Native.Nat.{ℕ, zero, suc, _+_, _-_, _<_, _≤_}
 use native.Mathlib.Omega.{arith}
 use borrow.Author.Tests.{lt-ltb, le-ltb, ltb-true, ltb-false}
 use lib.Dec.{ltb}
-use lib.ListN.{length, take, drop, take-append-drop}
+use lib.ListN.{length, getD, take, drop, take-append-drop}
 use lib.Seq.{length-take-le}
 use Rattle.token.specs.Scan.{scan}
 use Rattle.token.specs.declared.Token.{Token}
@@ -18,6 +18,7 @@ use Rattle.lexer.specs.Location.{behind, endsLine, pass}
 use Rattle.lexer.proofs.CutLaws.{hit-fits, pass-at}
 use Rattle.token.specs.Code.{code, is}
 use Rattle.token.proofs.Pattern.{newline-one}
+use Rattle.lexer.proofs.PlaceLaws.{is-code, pass-code, pass-one}
 use Rattle.place.specs.Place.{kindOf, lengthOf, walk, least, step}
 
 pub least-lt : (a b : ℕ) → a < b → least a b ≡ a
@@ -158,5 +159,12 @@ one-by t m h (Hit k n) e i = rw (newline-one t k n e i) (go (ltb 1 m) refl)
     go true f = refl
     go false f = omega (arith, ltb-false 1 m f)
 
-pub one-passed : (t : List ℕ) (m : ℕ) → 0 < m → is (kindOf (scan t)) T.Newline ≡ true → least (lengthOf (scan t)) m ≡ 1
+one-passed : (t : List ℕ) (m : ℕ) → 0 < m → is (kindOf (scan t)) T.Newline ≡ true → least (lengthOf (scan t)) m ≡ 1
 one-passed t m h i = one-by t m h (scan t) refl i
+
+pub step-line : (t : List ℕ) (m : ℕ) (s : Lexer) → 0 < m → 0 < length t → code (kindOf (scan t)) ≡ code T.Newline
+    → step t m s ≡ behind (endsLine T.Newline (getD t 0 0) (drop 1 t)) s
+unfolding step
+step-line t m s h g e =
+    rw (one-passed t m h (is-code (kindOf (scan t)) T.Newline e))
+    (pass-code (take 1 t) (kindOf (scan t)) T.Newline (drop 1 t) s e ∙ pass-one t T.Newline s g)

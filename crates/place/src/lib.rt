@@ -53,7 +53,10 @@ fn pass_first(lut: &[u8; 768], text: &[u8], most: usize, from: Lexer) -> Lexer
     let piece = first(lut, text, most);
     let token = piece.token;
     let n = piece.length;
-    location::pass_lexeme(token, text, n, from)
+    if token.code() == token::kind::NEWLINE {
+        return location::behind(from, location::ends_line(text, 0));
+    }
+    location::pass_lexeme(token, &text[..n], from)
 }
 
 // The place at an offset, which may lie in a token.

@@ -1,16 +1,22 @@
 -- A token whose kind one rule alone has matches that rule's pattern.
 --     first-in      of any list of rules
 --     newline-one   a line end has one byte
+--     newline-class   and the class of one
 use mathlib.Core.Path.{_≡_, refl, sym, ap, _∙_}
 use mathlib.Core.Logic.{_⊎_, inl, inr}
-use mathlib.Core.Bool.{Bool, true, false, cond, not, _&&_}
+use mathlib.Core.Bool.{Bool, true, false, cond, not, _&&_, _||_}
 use mathlib.Core.List.{List, [], _∷_}
-use Prim.Native.Nat.{ℕ}
+use Prim.Native.Nat.{ℕ, _<_}
 use native.Mathlib.Omega.{arith}
-use lib.ListN.{length, take}
-use lib.Seq.{length-take-le}
+use lib.Dec as Dec
+use lib.Dec.{eqb}
+use lib.ListN.{length, take, getD}
+use lib.Seq.{length-take-le, getD-take}
 use borrow.Author.Tests.{eq-eqb}
 use Rattle.token.specs.Code.{code, is}
+use Rattle.token.specs.Regex.{Range, within, ranges, bytes}
+use Rattle.token.specs.Tables.{classes}
+use Rattle.token.specs.Run.{classOf}
 use Rattle.token.specs.Patterns.{Rule, rule, rules, words, rest, marks, shapes, wordRule, token, oneOf, patternOf}
 use Rattle.token.specs.Match.{In, First, Longest}
 use Rattle.token.specs.Scan.{scan}
@@ -18,6 +24,9 @@ use Rattle.token.specs.declared.Token.{Token}
 use Rattle.token.specs.declared.Token.the-variants as T
 use Rattle.token.specs.declared.Scan.the-variants.{Hit}
 use Rattle.token.proofs.Codes.{same-kind}
+use Rattle.token.proofs.Truth.{T-true}
+use Rattle.token.proofs.Every.{every, at}
+use Rattle.token.proofs.Classes.{classes-length}
 use Rattle.token.proofs.Meaning.{scan-longest}
 use Rattle.token.proofs.Keyword.{hit-first}
 
@@ -62,14 +71,35 @@ once-newline : once T.Newline rules ≡ true
 unfolding once absent rules words rest marks shapes wordRule token is code
 once-newline = refl
 
-one-byte : (w : List ℕ) → In (patternOf T.Newline rules) w → length w ≡ 1
-unfolding patternOf rules words rest marks shapes wordRule token is code oneOf
-one-byte w h = ap length (h .1)
+abbrev lineEnds : List Range
+lineEnds = ranges (bytes "\r\r\n\n\u{c}\u{c}")
 
-newline-long : (t : List ℕ) (n : ℕ) → scan t ≡ Hit T.Newline n → n ≡ 1
-newline-long t n e =
-    let l : Longest t (Hit T.Newline n) = rw e at (scan-longest t) in
-    sym (length-take-le n t (l .1)) ∙ one-byte (take n t) (first-in T.Newline rules (take n t) once-newline (hit-first t T.Newline n e))
+one-byte : (w : List ℕ) → In (patternOf T.Newline rules) w → (c : ℕ) × (w ≡ c ∷ []) × (within c lineEnds ≡ true)
+unfolding patternOf rules words rest marks shapes wordRule token is code oneOf
+one-byte w h = h
+
+newline-byte : (t : List ℕ) (k : Token) (n : ℕ) → scan t ≡ Hit k n → is k T.Newline ≡ true → (c : ℕ) × (take n t ≡ c ∷ []) × (within c lineEnds ≡ true)
+newline-byte t k n e i =
+    one-byte (take n t) (first-in T.Newline rules (take n t) once-newline (hit-first t T.Newline n (e ∙ ap (λ (q : Token). Hit q n) (same-kind k T.Newline i))))
 
 pub newline-one : (t : List ℕ) (k : Token) (n : ℕ) → scan t ≡ Hit k n → is k T.Newline ≡ true → n ≡ 1
-newline-one t k n e i = newline-long t n (e ∙ ap (λ (q : Token). Hit q n) (same-kind k T.Newline i))
+newline-one t k n e i =
+    let l : Longest t (Hit k n) = rw e at (scan-longest t) in
+    sym (length-take-le n t (l .1)) ∙ ap length (newline-byte t k n e i .1)
+
+-- its class is that of `\n`, or that of `\r` and `\f`
+line : ℕ → ℕ → Bool
+line c k = cond (within c lineEnds) (eqb k 39 || eqb k 40) true
+
+line-test : Dec.T (every line 0 classes)
+unfolding line classes within ranges bytes
+line-test = tt
+
+pub newline-class : (t : List ℕ) (k : Token) (n : ℕ) → getD t 0 0 < 256 → scan t ≡ Hit k n → is k T.Newline ≡ true → (eqb (classOf (getD t 0 0)) 39 || eqb (classOf (getD t 0 0)) 40) ≡ true
+unfolding line classOf
+newline-class t k n b e i =
+    let h = newline-byte t k n e i in
+    let one : n ≡ 1 = newline-one t k n e i in
+    let f : getD t 0 0 ≡ h .0 = sym (getD-take n t 0 0 (omega arith)) ∙ ap (λ (w : List ℕ). getD w 0 0) (h .1) in
+    let x : within (getD t 0 0) lineEnds ≡ true = rw f (h .2) in
+    T-true _ (rw x at (at line classes 0 line-test (getD t 0 0) (rw classes-length b)))

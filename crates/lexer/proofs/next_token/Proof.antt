@@ -8,13 +8,13 @@ use lib.ListN.{length, take, drop, length-drop}
 use lib.Seq.{length-take-le}
 use Rattle.token.specs.Scan.{scan}
 use Rattle.token.specs.declared.Scan.the-variants.{Hit}
-use Rattle.token.proofs.Pattern.{newline-one}
-use Rattle.scan.proofs.Part.{part}
+use Rattle.token.specs.Code.{is}
+use Rattle.token.specs.declared.Token.the-variants as T
 use Rattle.lexer.specs.Location.{Placed, pass}
 use Rattle.lexer.specs.Tokens.{skipped, next}
-use Rattle.lexer.proofs.CutLaws.{hit-fits, pass-at, next-end, next-miss, next-hit}
-use Rattle.lexer.proofs.ByteLaws.{next-blank, next-line, next-mark}
-use Rattle.lexer.proofs.PlaceLaws.{behind-at, placed-behind, pass-placed}
+use Rattle.lexer.proofs.CutLaws.{slice, hit-fits, pass-at, next-end, next-miss, next-hit}
+use Rattle.lexer.proofs.ByteLaws.{next-blank, next-line, next-mark, token-no-line}
+use Rattle.lexer.proofs.PlaceLaws.{behind-at, placed-behind, pass-placed, pass-behind}
 use Rattle.lexer.proofs.next_token.Statement.{statement}
 use Rattle.lexer.proofs.next_token.Tie as tie
 
@@ -104,13 +104,34 @@ fits c =
     let h = hit-fits (drop (l .loop .from .at) t) _ _ (hit c) in
     (h .0, omega (arith, h .1, length-drop (l .loop .from .at) t, s .before .before .before .before .before .before .if1 .left))
 
+add-end : tie.Need-add-end Inv-loop μ-loop
+add-end c = omega (arith, fits c .1)
+
+sub-pass-lexeme : tie.Need-sub-pass-lexeme Inv-loop μ-loop
+sub-pass-lexeme c = omega arith
+
+part-pass-lexeme-start : tie.Need-part-pass-lexeme-start Inv-loop μ-loop
+part-pass-lexeme-start c = search needs
+
+part-pass-lexeme-end : tie.Need-part-pass-lexeme-end Inv-loop μ-loop
+part-pass-lexeme-end c = let h = fits c .1 in search needs
+
+-- it is no line end, by its class
+no-line : (c : tie.After-known-told Inv-loop μ-loop) → is (c .before .found .given .0 .0) T.Newline ≡ false
+no-line c =
+    let l = c .before .before .before .before .before .before .before .before .before .before .before in
+    let t = l .before .before .args .text .now in
+    let k = c .before .before .before .before .before .before .before .before .class-at .ensures in
+    token-no-line t (l .loop .from .at) (λ j. omega (arith, l .before .shared-slice-known .given j)) _ k
+    (sym (c .before .before .before .before .before .before .is-line-end .ensures) ∙ c .before .before .before .before .before .if3 .left) _ _ (hit c)
+
 pass-lexeme-requires : tie.Need-pass-lexeme-requires Inv-loop μ-loop
 pass-lexeme-requires c κs =
     let d = c .before in
     let l = d .before .before .before .before .before .before .before .before .before .before .before in
     let t = l .before .before .args .text .now in
-    let h = hit-fits (drop (l .loop .from .at) t) _ _ (hit d) in
-    (l .loop .inv .0, h .0, rw (part t (l .loop .from .at)) (h .1), omega (arith, fits d .1, l .before .before .pre .1), λ e. newline-one (drop (l .loop .from .at) t) _ _ (hit d) e)
+    let n = length-take-le _ (drop (l .loop .from .at) t) (hit-fits (drop (l .loop .from .at) t) _ _ (hit d) .1) in
+    (l .loop .inv .0, rw (slice t (l .loop .from .at) (d .before .found .given .0 .1 .0)) (omega (arith, n, fits d .1, l .before .before .pre .1)), no-line d)
 
 -- where the lexer stands behind it
 module _ (c : tie.After-pass-lexeme Inv-loop μ-loop) where
@@ -122,7 +143,7 @@ module _ (c : tie.After-pass-lexeme Inv-loop μ-loop) where
   passed =
       let d = c .before .before in
       let l = d .before .before .before .before .before .before .before .before .before .before .before in
-      rw (part (l .before .before .args .text .now) (l .loop .from .at)) at (c .pass-lexeme .ensures)
+      rw (slice (l .before .before .args .text .now) (l .loop .from .at) (d .before .found .given .0 .1 .0)) at (c .pass-lexeme .ensures) ∙ pass-behind _ _ _ _ (l .loop .from) (no-line d)
 
   length-of : length (take (c .before .before .before .found .given .0 .1 .0) (drop (c .before .before .before .before .before .before .before .before .before .before .before .before .before .loop .from .at) (c .before .before .before .before .before .before .before .before .before .before .before .before .before .before .before .args .text .now)))
       ≡ c .before .before .before .found .given .0 .1 .0
@@ -191,9 +212,10 @@ next-token-spec =
     (λ c. search needs)
     (λ c. search needs)
     returns-3
-    (λ c. search needs)
-    (λ c. search needs)
-    (λ c. search needs)
+    add-end
+    sub-pass-lexeme
+    part-pass-lexeme-start
+    part-pass-lexeme-end
     pass-lexeme-requires
     (λ c κs. search needs)
     loop-less-3
