@@ -1,0 +1,1 @@
+// What the rule for lines and columns decides: definitions and laws, no code.
