@@ -21,7 +21,8 @@ use Rattle.ast.specs.Ast.{
   Service,
 }
 use Rattle.ast.specs.Drop.{dropField, dropFunction, dropParams}
-use Rattle.ast.proofs.Forget.{bares, forgetAnnotations, forgetField, forgetFunction, forgetDefinition, forget}
+use Rattle.ast.specs.Move.{moves, moveAnnotations, moveField, moveFunction, moveDefinition, move}
+use Rattle.ast.proofs.Forget.{forgetField, forgetFunction, forgetDefinition, forget}
 
 -- two functions one after another on each of a list
 maps-swap : {A : Type 0} (f g h k : A → A) → ((x : A) → f (g x) ≡ h (k x)) → (xs : List A) → maps f (maps g xs) ≡ maps h (maps k xs)
@@ -35,7 +36,7 @@ maps-once f g h e [] = refl
 maps-once f g h e (x ∷ xs) = simp (e x, maps-once f g h e xs)
 
 field-order : (f : Field) → forgetField (dropField f) ≡ dropField (forgetField f)
-unfolding forgetField dropField bares forgetAnnotations
+unfolding moveField dropField moves moveAnnotations
 field-order (field l c i q t n v a) = refl
 
 throws-order : (th : Option (List Field)) → opt (maps forgetField) (opt (maps dropField) th) ≡ opt (maps dropField) (opt (maps forgetField) th)
@@ -44,11 +45,11 @@ throws-order none = refl
 throws-order (some fs) = ap some (maps-swap forgetField dropField dropField forgetField field-order fs)
 
 function-order : (f : Function) → forgetFunction (dropFunction f) ≡ dropFunction (forgetFunction f)
-unfolding forgetFunction dropFunction
+unfolding moveFunction dropFunction
 function-order (function l c o t n ps th a) = simp (maps-swap forgetField dropField dropField forgetField field-order ps, throws-order th)
 
 definition-order : (d : Definition) → forgetDefinition (dropParams d) ≡ dropParams (forgetDefinition d)
-unfolding forgetDefinition dropParams
+unfolding moveDefinition dropParams
 definition-order (Include l c n) = refl
 definition-order (CppInclude l c n) = refl
 definition-order (Namespace l c s n) = refl
@@ -59,7 +60,7 @@ definition-order (structure s l c n fs a) = refl
 definition-order (Service l c n x fs a) = simp (maps-swap forgetFunction dropFunction dropFunction forgetFunction function-order fs)
 
 pub drop-forget : (ds : List Definition) → forget (maps dropParams ds) ≡ maps dropParams (forget ds)
-unfolding forget
+unfolding move
 drop-forget ds = maps-swap forgetDefinition dropParams dropParams forgetDefinition definition-order ds
 
 field-twice : (f : Field) → dropField (dropField f) ≡ dropField f

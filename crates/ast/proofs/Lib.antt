@@ -1,3 +1,5 @@
 pub mod Forget
 pub mod Drops
 pub mod Counts
+pub mod Maps
+pub mod MovedRows

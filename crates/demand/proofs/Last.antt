@@ -17,7 +17,8 @@ use Rattle.lexer.specs.Location.{pass, spanOf, between}
 use Rattle.lexer.specs.Tokens.{Lexeme, lexeme, skipped, lexemes}
 use Rattle.lexer.proofs.CutLaws.{pass-at}
 use Rattle.ast.specs.Ast.{Definition, Include, CppInclude, Namespace, Const, Typedef, Enum, structure, Service, Struct, Union, Exception}
-use Rattle.ast.proofs.Forget.{bareL, bares}
+use Rattle.ast.specs.Move.{moveL, moves}
+use Rattle.ast.proofs.Forget.{bares}
 use Rattle.parser.specs.Steps.{place}
 use Rattle.parser.proofs.Sure.{final}
 use Rattle.parser.proofs.Ended.{Far}
@@ -60,7 +61,7 @@ final-long (cut k w r cs) s l h = go (skipped k) h (final-long cs (pass w k r s)
     go false (there g) ih = ih (between s (pass w k r s)) g
 
 long-bare : (ts : List Lexeme) → Long (bares ts) → Long ts
-unfolding bares bareL
+unfolding moves moveL
 long-bare (lexeme k w l ∷ ts) (here g) = here g
 long-bare (lexeme k w l ∷ ts) (there g) = there (long-bare ts g)
 
@@ -101,7 +102,7 @@ vacant [] = true
 vacant (t ∷ ts) = false
 
 far-none : (ts : List Lexeme) (l : LOC) → Far l → bares ts ≡ [] → Far (final l ts)
-unfolding final bares vacant
+unfolding final moves vacant
 far-none [] l f e = f
 far-none (t ∷ ts) l f e = absurd (false≢true (ap vacant e))
 

@@ -23,6 +23,7 @@ use Rattle.lexer.proofs.Ascii.{fine-means}
 use Rattle.ast.specs.Ast.{Definition}
 use Rattle.ast.specs.Lists.{maps, All, anil}
 use Rattle.ast.specs.Drop.{dropParams}
+use Rattle.ast.specs.Move.{moves}
 use Rattle.ast.proofs.Forget.{nowhere, bares, forget}
 use Rattle.parser.specs.Steps.{St, pos, Res, ok, no}
 use Rattle.parser.specs.Definitions.{parseDocument}
@@ -30,7 +31,7 @@ use Rattle.parser.specs.Read.{parsed, answered, outcomeBy, outcome}
 use Rattle.ast.specs.Numbered.{Numbered}
 use Rattle.parser.proofs.Wf.{WfDefinition, most}
 use Rattle.parser.proofs.Sure.{Some, Read, good, final, sure-ok, both, document-s}
-use Rattle.parser.proofs.Same.{bareS, bareR}
+use Rattle.parser.proofs.Same.{moveS, moveR, bareR}
 use Rattle.parser.proofs.Ended.{Far, parse-same}
 use Rattle.writer.specs.Print.{pieces, printed}
 use Rattle.writer.proofs.Toks.{Good}
@@ -100,7 +101,7 @@ module _ (t : List ℕ) (b : Bytes t) (ds : List Definition) (e : outcome t ≡ 
       print-far indent ds (cuts (printed indent ds)) opening (between opening opening) refl (lexes (pieces indent ds) (pieces-apart indent (well-read n)))
 
   pub print-parsed : All Numbered ds → (indent : ℕ) → bareR forget (parsed (printed indent ds)) ≡ ok (forget (maps dropParams ds)) (pos nowhere [] [])
-  unfolding parsed bareS bares
+  unfolding parsed moveS moves
   print-parsed n indent = sym (parse-same (between opening opening) (tokens (printed indent ds) opening) (print-last n indent)) ∙ print-reads n indent
 
 -- a text that is read, to the same as xs but for places
@@ -118,7 +119,7 @@ succeeds (ok ds s) = true
 succeeds (no e l) = false
 
 again-by : (m : Res (List Definition)) (t : List ℕ) (xs : List Definition) → checked t ≡ accepted [] → parsed t ≡ m → bareR forget m ≡ ok (forget xs) (pos nowhere [] []) → Again t xs
-unfolding bareR outcome outcomeBy answered results succeeds
+unfolding moveR outcome outcomeBy answered results succeeds
 again-by (ok ds s) t xs f p e = record { found = ds; taken = rw (f, p) refl; same-tree = ap results e }
 again-by (no x l) t xs f p e = absurd (false≢true (ap succeeds e))
 

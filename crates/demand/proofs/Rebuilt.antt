@@ -5,7 +5,7 @@ use mathlib.Core.Path.{_≡_, refl, sym, ap, _∙_}
 use mathlib.Core.Bool.{Bool, true, false, cond, not}
 use mathlib.Core.List.{List, [], _∷_}
 use mathlib.Core.Option.{Option, some, none}
-use Prim.Native.Nat.{ℕ, suc, _+_, _<_}
+use Prim.Native.Nat.{ℕ, _+_, _<_}
 use borrow.Author.Tests.{not-true}
 use lib.Dec.{T, eqb}
 use native.Mathlib.Omega.{arith}
@@ -79,22 +79,9 @@ use Rattle.ast.specs.Tree.{
   definitionTree,
 }
 use Rattle.ast.specs.Records.{forest}
-use Rattle.ast.proofs.Forget.{
-  nowhere,
-  bareL,
-  bares,
-  forgetType,
-  forgetValue,
-  forgetElements,
-  forgetProperties,
-  forgetAnnotation,
-  forgetAnnotations,
-  forgetField,
-  forgetMember,
-  forgetFunction,
-  forgetDefinition,
-  forget,
-}
+use Rattle.ast.specs.Move.{moveL, moves, moveType, moveValue, moveElements, moveProperties, moveAnnotation, moveAnnotations, moveField, moveMember, moveFunction, moveDefinition, move}
+use Rattle.ast.proofs.Maps.{length-maps}
+use Rattle.ast.proofs.Forget.{nowhere, bareL, bares, forgetType, forgetValue, forgetElements, forgetProperties, forgetAnnotation, forgetAnnotations, forgetField, forgetMember, forgetFunction, forgetDefinition, forget}
 use Rattle.parser.specs.Steps.{kind, bytes}
 use Rattle.parser.proofs.Wf as W
 use Rattle.parser.proofs.Wf.{most, Tok}
@@ -152,11 +139,11 @@ use Rattle.demand.proofs.Rebuild.{
 
 module _ {ks : List Token} where
   spelled-back : {t : Lexeme} → Tok Good ks t → spelled (bytes t) ≡ bareL t
-  unfolding spelled bareL bytes kind kindBy
+  unfolding spelled moveL bytes kind kindBy
   spelled-back {t = lexeme k w l} g = rw (g .good .scanned)
 
   notes-back : {c : List Lexeme} → All (Tok Good ks) c → maps spelled (maps noteBytes c) ≡ bares c
-  unfolding maps noteBytes bares bytes
+  unfolding maps noteBytes moves bytes
   notes-back anil = refl
   notes-back (acons {x = lexeme k w l} g gs) = cc (spelled-back g, notes-back gs)
 
@@ -198,14 +185,14 @@ common-back {t = lexeme k w l} g = go (is k T.Identifier) (spelled-back g)
     go false e = ap CommonType e
 
 type-back : {d : ℕ} {t : FieldType} → W.WfType Good d t → typeOf (shapeOf (typeTree t)) ≡ forgetType t
-unfolding typeOf typeFirst typeSecond shapeOf shapesOf typeTree forgetType inner single both
+unfolding typeOf typeFirst typeSecond shapeOf shapesOf typeTree moveType inner single both
 type-back (W.wcommon g) = common-back g
 type-back (W.wlist g h) = cc (list-back g, type-back h)
 type-back (W.wset g h) = cc (set-back g, type-back h)
 type-back (W.wmap g h i) = cc (map-back g, type-back h, type-back i)
 
 return-back : {t : FieldType} → W.WfReturn Good t → typeOf (shapeOf (typeTree t)) ≡ forgetType t
-unfolding forgetType
+unfolding moveType
 return-back (W.wvoid g) = common-back g
 return-back (W.wtype h) = type-back h
 
@@ -239,7 +226,7 @@ const-back {t = lexeme k w l} g = literal-kind (λ (n : ℕ). valueOf (shape n 0
     e = ap ConstValue (spelled-back g)
 
 mutual
-  unfolding valueOf elementsOf propertiesOf keyOf entryOf valueFirst valueSecond shapeOf shapesOf valueTree elementTrees propertyTrees forgetValue forgetElements forgetProperties inner both single
+  unfolding valueOf elementsOf propertiesOf keyOf entryOf valueFirst valueSecond shapeOf shapesOf valueTree elementTrees propertyTrees moveValue moveElements moveProperties inner both single
 
   value-back : {d : ℕ} {v : FieldInitialValue} → W.WfValue Good d v → valueOf (shapeOf (valueTree v)) ≡ forgetValue v
   value-back (W.wleaf g) = const-back g
@@ -287,11 +274,11 @@ module _ {A B : Type 0} (p : ℕ → ℕ → Bool) (f : Shape → B) (t : A → 
 -- ---- annotations
 
 annotation-back : {a : Annotation} → W.WfAnnotation Good a → annotationOf (shapeOf (annotationTree a)) ≡ forgetAnnotation a
-unfolding annotationOf head tail shapeOf shapesOf annotationTree forgetAnnotation inner both single
+unfolding annotationOf head tail shapeOf shapesOf annotationTree moveAnnotation inner both single
 annotation-back (W.wannotation g h) = cc (name-back g, literal-back h)
 
 annotations-back : {a : Annotations} → W.WfAnnotations Good a → annotationsIn (shapesOf (annotationsTree a bare)) ≡ forgetAnnotations a
-unfolding annotationsIn annotationsFirst select holds anAnnotations annotationsOf shapeOf shapesOf annotationsTree forgetAnnotations inner
+unfolding annotationsIn annotationsFirst select holds anAnnotations annotationsOf shapeOf shapesOf annotationsTree moveAnnotations inner
 annotations-back W.wabsent = refl
 annotations-back (W.wannotations g h) =
     ap (annotations nowhere)
@@ -378,7 +365,7 @@ default-back {v = v} d a =
     go (W.wsome h) = ap some (value-back h)
 
 field-back : (f : ℕ) → Reads f → {x : Field} → W.WfField Good x → fieldOf (shapeOf (fieldTree f x)) ≡ forgetField x
-unfolding fieldOf fieldWith head tail shapeOf shapesOf fieldTree perhaps opt forgetField
+unfolding fieldOf fieldWith head tail shapeOf shapesOf fieldTree perhaps opt moveField
 field-back f q (W.wfield {q = r} {v = v} {a = a} c (W.wid i j) t n d g) =
     let h : annotationsIn (shapesOf (perhaps valueTree v (annotationsTree a bare))) ≡ forgetAnnotations a
     = behind-perhaps valueTree (λ x. not-both (shapeOf (valueTree x)) (value-here x)) v (annotationsTree a bare) ∙ annotations-back g in
@@ -394,7 +381,7 @@ option-back t h W.wnothing = refl
 option-back t h (W.wjust {t = x} g) = ap some (h x g)
 
 member-back : {x : EnumMember} → W.WfMember Good x → memberOf (shapeOf (memberTree x)) ≡ forgetMember x
-unfolding memberOf head tail shapeOf shapesOf memberTree forgetMember noAnnotations
+unfolding memberOf head tail shapeOf shapesOf memberTree moveMember noAnnotations
 member-back (W.wmember {v = v} {a = a} c n o g) =
     let h : annotationsIn (shapesOf (perhaps literalTree v (annotationsTree a bare))) ≡ forgetAnnotations a
     = behind-perhaps literalTree (λ x. not-both (shapeOf (literalTree x)) (literal-here x)) v (annotationsTree a bare) ∙ annotations-back g in
@@ -463,7 +450,7 @@ oneway-back false none = refl
 oneway-back false (some th) = refl
 
 function-back : {x : Function} → W.WfFunction Good x → functionOf (shapeOf (functionTree x)) ≡ forgetFunction x
-unfolding functionOf functionWith head tail shapeOf shapesOf functionTree forgetFunction
+unfolding functionOf functionWith head tail shapeOf shapesOf functionTree moveFunction
 function-back (W.wfunction {o = o} {ps = ps} {th = th} {a = a} c t n p h g i) =
     let e : annotationsIn (shapesOf (each (fieldTree 0) ps (throwsTrees th (annotationsTree a bare)))) ≡ forgetAnnotations a
     = behind-each (fieldTree 0) (field-other 0) ps (throwsTrees th (annotationsTree a bare)) ∙ behind-throws a th ∙ annotations-back i in
@@ -519,7 +506,7 @@ module _ (x : Option Lexeme) (fs : List Function) (a : Annotations) where
       behind-perhaps nameTree name-other x (each functionTree fs (annotationsTree a bare)) ∙ behind-each functionTree function-other fs (annotationsTree a bare) ∙ annotations-back g
 
 definition-back : {d : Definition} → W.WfDefinition Good d → definitionOf (shapeOf (definitionTree d)) ≡ forgetDefinition d
-unfolding definitionOf typedBy namedBy structureOf head tail shapeOf shapesOf definitionTree structureKind forgetDefinition both single
+unfolding definitionOf typedBy namedBy structureOf head tail shapeOf shapesOf definitionTree structureKind moveDefinition both single
 definition-back (W.winclude c n) = cc (notes-back c, name-back n)
 definition-back (W.wcpp c n) = cc (notes-back c, name-back n)
 definition-back (W.wnamespace c s n) = cc (notes-back c, name-back s, name-back n)
@@ -534,16 +521,11 @@ definition-back (W.wservice {x = x} {fs = fs} {a = a} c n o h i g) =
     cc (notes-back c, name-back n, extends-back x fs a o, functions-back x fs a h, service-back x fs a g)
 
 pub rebuilt : {ds : List Definition} → All (W.WfDefinition Good) ds → rebuild (shapesOf (forest ds)) ≡ forget ds
-unfolding rebuild forest forget select shapesOf
+unfolding rebuild forest move select shapesOf
 rebuilt h =
     taken-each anything definitionOf definitionTree forgetDefinition (λ x. any-shape (shapeOf (definitionTree x))) (λ x. definition-back) h bare refl
 
 -- ---- what is left of well-formed definitions by the drop is well formed
-
-length-maps : {A : Type 0} (f : A → A) (xs : List A) → length (maps f xs) ≡ length xs
-unfolding maps
-length-maps f [] = refl
-length-maps f (x ∷ xs) = ap suc (length-maps f xs)
 
 all-maps : {A : Type 0} {W : A → Type 0} (f : A → A) → ((x : A) → W x → W (f x)) → {xs : List A} → All W xs → All W (maps f xs)
 unfolding maps

@@ -8,11 +8,12 @@ use Rattle.token.specs.declared.Token.{Token}
 use Rattle.lexer.specs.declared.location.LOC.{LOC}
 use Rattle.lexer.specs.Tokens.{Lexeme, lexeme}
 use Rattle.ast.specs.Ast.{Definition}
-use Rattle.ast.proofs.Forget.{nowhere, bareL, bares, forget}
+use Rattle.ast.specs.Move.{moveL, moves}
+use Rattle.ast.proofs.Forget.{gone, nowhere, bares, forget}
 use Rattle.parser.specs.Steps.{place, St, pos, Res, ok, P, bind, test, loop, many}
 use Rattle.parser.specs.Definitions as D
 use Rattle.parser.specs.Definitions.{parseDefinition, documentEnd, parseDocument}
-use Rattle.parser.proofs.Same.{bareS, bareR, ended, endedDocument, sameDocument, document-same}
+use Rattle.parser.proofs.Same.{moveS, bareS, bareR, ended, endedDocument, sameDocument, document-same}
 use Rattle.ast.specs.Lists.{All, anil, acons}
 use Rattle.parser.proofs.Sure.{
   final,
@@ -79,17 +80,16 @@ module _ (l : LOC) (ts : List Lexeme) (far : Far (final l ts)) where
 -- ---- bare tokens are far
 
 final-bare : (ts : List Lexeme) → final nowhere (bares ts) ≡ nowhere
-unfolding final bares bareL place
+unfolding final moves moveL place
 final-bare [] = refl
 final-bare (lexeme k w l ∷ ts) = final-bare ts
 
 bare-far : (ts : List Lexeme) → Far (final nowhere (bares ts))
-unfolding nowhere
 bare-far ts = rw final-bare
 
 -- the bare tokens read as the bare document
 module _ (l : LOC) (ts : List Lexeme) (far : Far (final l ts)) where
   pub parse-same : parseDocument (bareS (pos l [] ts)) ≡ bareR forget (parseDocument (pos l [] ts))
-  unfolding bareS bares
+  unfolding moveS moves
   parse-same =
-      document-ended nowhere (bares ts) (bare-far ts) ∙ document-same (pos l [] ts) ∙ ap (bareR forget) (sym (document-ended l ts far))
+      document-ended nowhere (bares ts) (bare-far ts) ∙ document-same gone (pos l [] ts) ∙ ap (bareR forget) (sym (document-ended l ts far))

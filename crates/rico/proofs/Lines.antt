@@ -2,6 +2,7 @@
 --     same-tokens    in a text without the pair every token has the place that rico gives it
 --     same-outcome   and so has every definition
 --     alike-tokens   in every text the tokens have the same kinds, bytes and indexes
+--     alike          so what is refused, read and printed is the same, but for lines and columns of the records
 use mathlib.Core.Path.{_≡_, refl, sym, ap, _∙_}
 use mathlib.Core.Bool.{Bool, true, false, cond, not, _&&_, and-true, and-eq-true-iff}
 use mathlib.Core.List.{List, [], _∷_, _++_}
@@ -26,7 +27,9 @@ use Rattle.lexer.proofs.PlaceLaws.{behind-at}
 use Rattle.lexer.proofs.CutLaws as CutLaws
 use Rattle.lexer.proofs.CutLaws.{hit-fits, cuts-nil, cuts-miss, cuts-hit}
 use Rattle.parser.specs.Read as R
-use Rattle.rico.specs.Lines.{endsLine, pass, lexemes, tokens, outcomeBy, outcome, unpaired}
+use Rattle.ast.specs.Move.{moveLoc, moveL, moves, unlined}
+use Rattle.rico.specs.Lines.{endsLine, pass, lexemes, tokens, outcomeBy, outcome, unpaired, unlinedOutcome, Alike}
+use Rattle.rico.proofs.Alike.{answered-alike, outcomes-alike}
 
 -- ---- the cuts of a text are its parts
 
@@ -112,3 +115,39 @@ pass-at (b ∷ w) k s = pass-at w k (behind (endsLine k b) s) ∙ go (endsLine k
   where
     go : (p : Bool) → behind p s .at + length w ≡ s .at + suc (length w)
     go p = omega (arith, behind-at p s)
+
+unlined-place : (s e u f : Lexer) → s .at ≡ u .at → e .at ≡ f .at → moveLoc unlined (between s e) ≡ moveLoc unlined (between u f)
+unfolding unlined between spanOf
+unlined-place s e u f a b = rw (a, b)
+
+alike-lexemes : (cs : Cuts) (s u : Lexer) → s .at ≡ u .at → moves unlined (K.lexemes cs s) ≡ moves unlined (lexemes cs u)
+unfolding K.lexemes lexemes moves moveL
+alike-lexemes end s u a = refl
+alike-lexemes stuck s u a = refl
+alike-lexemes (cut k w r cs) s u a =
+    go (skipped k) (alike-lexemes cs (L.pass w k r s) (pass w k u) further)
+  where
+    further : L.pass w k r s .at ≡ pass w k u .at
+    further = CutLaws.pass-at w k r s ∙ ap (λ (n : ℕ). n + length w) a ∙ sym (pass-at w k u)
+
+    go : (b : Bool) → moves unlined (K.lexemes cs (L.pass w k r s)) ≡ moves unlined (lexemes cs (pass w k u))
+        → moves unlined (cond b (K.lexemes cs (L.pass w k r s)) (lexeme k w (between s (L.pass w k r s)) ∷ K.lexemes cs (L.pass w k r s)))
+        ≡ moves unlined (cond b (lexemes cs (pass w k u)) (lexeme k w (between u (pass w k u)) ∷ lexemes cs (pass w k u)))
+    go true e = e
+    go false e = rw (unlined-place s (L.pass w k r s) u (pass w k u) a further, e)
+
+pub alike-tokens : (t : List ℕ) → moves unlined (K.tokens t opening) ≡ moves unlined (tokens t)
+unfolding K.tokens tokens opening
+alike-tokens t = alike-lexemes (cuts t) _ _ refl
+
+alike-by : (c : Outcome (List ℕ)) (t : List ℕ) → unlinedOutcome (R.outcomeBy c t) ≡ unlinedOutcome (outcomeBy c t)
+unfolding R.outcomeBy R.parsed outcomeBy
+alike-by (accepted ns) t = answered-alike (K.tokens t opening) (tokens t) (alike-tokens t) t
+alike-by (refused n p l) t = refl
+
+pub alike-outcome : (t : List ℕ) → unlinedOutcome (R.outcome t) ≡ unlinedOutcome (outcome t)
+unfolding R.outcome outcome
+alike-outcome t = alike-by (checked t) t
+
+pub alike : (t : List ℕ) → Alike (R.outcome t) (outcome t)
+alike t = outcomes-alike (R.outcome t) (outcome t) (alike-outcome t)

@@ -17,6 +17,7 @@ use Rattle.lexer.specs.Tokens.{Lexeme, lexeme}
 use Rattle.ast.specs.Lists.{maps, opt, All, anil, acons}
 use Rattle.ast.specs.Ast.{FieldType, FieldInitialValue, Elements, nil, cons, Properties, pnil, Annotation, Annotations, absent, annotations, Required, default, required, optional, Field, field, EnumMember, member, Function, function, Structure, Struct, Union, Exception, Definition, Include, CppInclude, Namespace, Const, Typedef, Enum, structure, Service}
 use Rattle.ast.specs.Drop.{dropField, dropFunction, dropParams}
+use Rattle.ast.specs.Move.{moveL, moves, moveType, moveValue, moveElements, moveProperties, moveAnnotation, moveAnnotations, moveField, moveMember, moveFunction, moveDefinition, move}
 use Rattle.ast.proofs.Forget.{nowhere, bareL, bares, forgetType, forgetValue, forgetElements, forgetProperties, forgetAnnotation, forgetAnnotations, forgetField, forgetMember, forgetFunction, forgetDefinition, forget}
 use Rattle.parser.specs.Steps.{kind, place, St, pos, Res, ok, P, bind, test, peek, when, next, want, start, here, taken, Fate, stop, over, wait, fate, by, pass, skip, skip-separator, skip-comments, skip-comments-discard, skip-trivia, closed, loop, many, separators}
 use Rattle.parser.specs.Types.{leafTypes, containerTypes, complexType, mapType, containerType, typeBy, fieldType}
@@ -95,7 +96,7 @@ unfolding toks
 gap-rt b r = refl
 
 own-toks : (t : Lexeme) (r : List Piece) → toks (own t ∷ r) ≡ bareL t ∷ toks r
-unfolding toks own bareL
+unfolding toks own moveL
 own-toks (lexeme k w l) r = refl
 
 is-self : (k : Token) → among k (k ∷ []) ≡ true
@@ -272,7 +273,7 @@ module _ (Good : Token → List ℕ → Type 0) where
   want-own h e c r = simp (peek-own, h .kinds, next-own)
 
   pub type-rt : {d : ℕ} {t : FieldType} → WfType Good d t → (c : List Lexeme) (r : List Piece) → fieldType d (on c (writeType t r)) ≡ ok (forgetType t) (on c r)
-  unfolding fieldType typeBy containerType complexType mapType writeType forgetType bind test here
+  unfolding fieldType typeBy containerType complexType mapType writeType moveType bind test here
   type-rt {d = zero} (wcommon h) c r = simp (next-own, kind-bare, h .kinds)
   type-rt {d = suc d} (wcommon h) c r = simp (next-own, kind-bare, h .kinds)
   type-rt (wlist {k = k} {t = t} h g) c r = let z = list-kinds (kind k) (h .kinds) in
@@ -390,7 +391,7 @@ module _ (Good : Token → List ℕ → Type 0) where
   value-opens (wdict h) r = opens-mark valueStarts T.LeftBrace 123 brace-starts _
 
   mutual
-    unfolding fieldValue valueBy containerValue listValue mapValue many writeValue writeElements moreElements writeProperties moreProperties forgetValue forgetElements forgetProperties bind test here kind place put
+    unfolding fieldValue valueBy containerValue listValue mapValue many writeValue writeElements moreElements writeProperties moreProperties moveValue moveElements moveProperties bind test here kind place put
 
     pub value-rt : {d : ℕ} {v : FieldInitialValue} → WfValue Good d v → (c : List Lexeme) (r : List Piece) → fieldValue d (on c (writeValue v r)) ≡ ok (forgetValue v) (on c r)
     value-rt {d = zero} (wleaf h) c r = simp (next-own, kind-bare, h .kinds)
@@ -478,7 +479,7 @@ annotations-shut c r = simp (discard-stay, peek-mark, shuts-paren .nocomment, cl
 module _ (Good : Token → List ℕ → Type 0) where
   annotation-rt : {x : Annotation} → WfAnnotation Good x → (xs : List Annotation) (c : List Lexeme) (r : List Piece) →
       parseAnnotation (on c (writeEach commas writeAnnotation (x ∷ xs) (mark T.RightParen 41 ∷ r))) ≡ ok (forgetAnnotation x) (on c (writeEach commas writeAnnotation xs (mark T.RightParen 41 ∷ r)))
-  unfolding parseAnnotation writeEach writeAnnotation forgetAnnotation bind
+  unfolding parseAnnotation writeEach writeAnnotation moveAnnotation bind
   annotation-rt (wannotation h g) xs c r = simp (want-own Good h, want-own Good g, want-mark, gap-rt, one-separator-rt xs c r, place-bare, span-nowhere)
 
   annotation-stay : {x : Annotation} → WfAnnotation Good x → (xs : List Annotation) (c : List Lexeme) (r : List Piece) →
@@ -497,7 +498,7 @@ module _ (Good : Token → List ℕ → Type 0) where
 
   pub annotations-rt : {a : Annotations} → WfAnnotations Good a → (c : List Lexeme) (r : List Piece) → Free (T.LeftParen ∷ []) r →
       parseAnnotations (on c (writeAnnotations a r)) ≡ ok (forgetAnnotations a) (on c r)
-  unfolding parseAnnotations writeAnnotations forgetAnnotations when test bind here many
+  unfolding parseAnnotations writeAnnotations moveAnnotations when test bind here many
   annotations-rt wabsent c r h = simp (h .free c)
   annotations-rt (wannotations k l) c r h = simp (gap-rt, peek-mark, is-self, next-mark, each-annotation-rt k 65537 l c r, span-nowhere)
 
@@ -549,7 +550,7 @@ comment-kinds k h = record {
 }
 
 note-toks : (t : Lexeme) (r : List Piece) → toks (writeComment t ∷ r) ≡ bareL t ∷ toks r
-unfolding toks writeComment bareL
+unfolding toks writeComment moveL
 note-toks (lexeme k w l) r = refl
 
 peek-note : (c : List Lexeme) (r : List Piece) (ks : List Token) (t : Lexeme) → peek ks (on c (writeComment t ∷ r)) ≡ among (kind t) ks
@@ -575,7 +576,7 @@ module _ (Good : Token → List ℕ → Type 0) (ind : List ℕ) (q : List Piece
   module _ (f : Token → Fate) (waits : (k : Token) → among k commentKinds ≡ true → f k ≡ wait)
       (stays : (c : List Lexeme) → pass f nowhere c (toks q) ≡ on c q) where
     pass-comments : {c : List Lexeme} → All (Tok Good commentKinds) c → (a : List Lexeme) → pass f nowhere a (toks (writeComments ind c q)) ≡ on (a ++ bares c) q
-    unfolding writeComments bares
+    unfolding writeComments moves
     pass-comments anil a = rw (append-nil a) (stays a)
     pass-comments (acons {x = t} {xs = ts} g gs) a =
         simp (gap-rt, note-toks, pass-wait f a t (toks (writeComments ind ts q)) (waits (kind t) (g .kinds))) (pass-comments gs (a ++ (bareL t ∷ [])) ∙ simp append-assoc)
@@ -704,7 +705,7 @@ module _ (Good : Token → List ℕ → Type 0) where
   default-rt (wsome g) c r h = simp (gap-rt, peek-mark, is-self, next-mark, parse-value-rt g c r)
 
   pub field-rt : (ind : List ℕ) {f : Field} → WfField Good f → (r : List Piece) → parseField (on (bares (notesField f)) (coreField ind f r)) ≡ ok (forgetField f) (on [] (comma ∷ line ∷ r))
-  unfolding parseField coreField notesField taken bind here forgetField
+  unfolding parseField coreField notesField taken bind here moveField
   field-rt ind (wfield {a = a} c i t n v a') r =
       let e = comma ∷ line ∷ r in let z = comma-free (line ∷ r) in
       simp (
@@ -720,7 +721,7 @@ module _ (Good : Token → List ℕ → Type 0) where
       )
 
   pub param-rt : {f : Field} → WfField Good f → (r : List Piece) → Free (T.Equals ∷ []) r → Free (T.LeftParen ∷ []) r → parseField (on [] (writeParam f r)) ≡ ok (forgetField (dropField f)) (on [] r)
-  unfolding parseField writeParam taken bind here forgetField dropField bares writeRequired writeAnnotations forgetAnnotations
+  unfolding parseField writeParam taken bind here moveField dropField moves writeRequired writeAnnotations moveAnnotations
   param-rt (wfield c i t n v a') r h g =
       simp (start-rt, gap-rt, id-rt i, required-rt t default, parse-type-rt t, want-own Good n, default-rt v [] r h, annotations-rt Good {a = absent} wabsent [] r g, span-nowhere)
 
@@ -776,7 +777,7 @@ module _ (Good : Token → List ℕ → Type 0) (ind : List ℕ) where
   initializer-rt (wjust g) c r h = simp (gap-rt, peek-mark, is-self, next-mark, want-own Good g)
 
   pub member-rt : {x : EnumMember} → WfMember Good x → (r : List Piece) → parseEnumMember (on (bares (notesMember x)) (coreMember ind x r)) ≡ ok (forgetMember x) (on [] (comma ∷ line ∷ r))
-  unfolding parseEnumMember coreMember notesMember taken bind here forgetMember
+  unfolding parseEnumMember coreMember notesMember taken bind here moveMember
   member-rt (wmember {a = a} c n v a') r =
       let e = comma ∷ line ∷ r in let z = comma-free (line ∷ r) in
       simp (gap-rt, want-own Good n, initializer-rt v [] (writeAnnotations a e) (free-annotations (T.Equals ∷ []) paren-equals a (z .0)), annotations-rt Good a' [] e (z .1), place-bare, span-nowhere)
@@ -902,7 +903,7 @@ unfolding writeAnnotations
 absent-skips r h = rw gap-rt h
 
 absent-reads : (s : St) → peek (T.LeftParen ∷ []) s ≡ false → parseAnnotations s ≡ ok (forgetAnnotations absent) s
-unfolding forgetAnnotations
+unfolding moveAnnotations
 absent-reads s h = absent-rt s h
 
 opens-keyword : (ks : List Token) (k : Token) (s : String) → among k ks ≡ true → (r : List Piece) → Opens ks (keyword k s ∷ r)
@@ -937,7 +938,7 @@ module _ (Good : Token → List ℕ → Type 0) where
 
   return-rt : {t : FieldType} → WfReturn Good t → (c : List Lexeme) (r : List Piece) → parseReturnType (on c (writeType t r)) ≡ ok (forgetType t) (on c r)
   unfolding parseReturnType when test bind
-  return-rt (wvoid h) c r = unfold writeType forgetType in simp (peek-own, h .kinds, next-own)
+  return-rt (wvoid h) c r = unfold writeType moveType in simp (peek-own, h .kinds, next-own)
   return-rt (wtype h) c r = let z = type-free (type-opens Good h r) in simp (z .2 .free c, parse-type-rt Good h c r)
 
   return-opens : {t : FieldType} → WfReturn Good t → (r : List Piece) → Opens starts (writeType t r) × Free (T.Oneway ∷ []) (writeType t r)
@@ -979,7 +980,7 @@ module _ (Good : Token → List ℕ → Type 0) where
 
   pub function-rt : (end : P Bool) (ind : List ℕ) {f : Function} → WfFunction Good f → (r : List Piece) → Calm end r →
       Leaves end r (parseFunction (on (bares (notesFunction f)) (coreFunction ind f r))) (forgetFunction (dropFunction f))
-  unfolding parseFunction coreFunction notesFunction taken bind here forgetFunction dropFunction
+  unfolding parseFunction coreFunction notesFunction taken bind here moveFunction dropFunction
   function-rt end ind (wfunction {a = a} c t n ps l th a') r k = let z = tail-rt end a' r k in record {
     held = z .held;
     left = z .left;
@@ -1138,7 +1139,7 @@ over-opens ks c [] h = cc
 over-opens ks c (t ∷ ts) h = refl
 
 document-shut : documentEnd (on [] []) ≡ ok true (on [] [])
-unfolding documentEnd bind skip-separator skip-comments skip pass toks D.over test nowhere
+unfolding documentEnd bind skip-separator skip-comments skip pass toks D.over test
 document-shut = refl
 
 module _ (Good : Token → List ℕ → Type 0) (q : List Piece) (h : Clear q) where
@@ -1184,37 +1185,37 @@ module _ (Good : Token → List ℕ → Type 0) (ind : List ℕ) where
 
   module _ (l : LOC) (c : List Lexeme) (r : List Piece) where
     include-rt : {n : Lexeme} → Tok Good (T.StringLiteral ∷ []) n → parseDefinition (on (bares c) (coreDefinition ind (Include l c n) r)) ≡ ok (forgetDefinition (dropParams (Include l c n))) (on [] r)
-    unfolding coreDefinition parseInclude taken bind forgetDefinition dropParams place
+    unfolding coreDefinition parseInclude taken bind moveDefinition dropParams place
     include-rt h = simp (pick-include, next-keyword, gap-rt, want-own Good h, place-bare, span-nowhere)
 
     cpp-rt : {n : Lexeme} → Tok Good (T.StringLiteral ∷ []) n → parseDefinition (on (bares c) (coreDefinition ind (CppInclude l c n) r)) ≡ ok (forgetDefinition (dropParams (CppInclude l c n))) (on [] r)
-    unfolding coreDefinition parseInclude taken bind forgetDefinition dropParams place
+    unfolding coreDefinition parseInclude taken bind moveDefinition dropParams place
     cpp-rt h = simp (pick-cpp, next-keyword, gap-rt, want-own Good h, place-bare, span-nowhere)
 
     namespace-rt : {s n : Lexeme} → Tok Good (T.Identifier ∷ T.Star ∷ []) s → Tok Good (T.Identifier ∷ []) n →
         parseDefinition (on (bares c) (coreDefinition ind (Namespace l c s n) r)) ≡ ok (forgetDefinition (dropParams (Namespace l c s n))) (on [] r)
-    unfolding coreDefinition parseNamespace taken bind forgetDefinition dropParams place
+    unfolding coreDefinition parseNamespace taken bind moveDefinition dropParams place
     namespace-rt g h = simp (pick-namespace, next-keyword, gap-rt, want-own Good g, want-own Good h, place-bare, span-nowhere)
 
     const-rt : {t : FieldType} {n : Lexeme} {v : FieldInitialValue} → WfType Good 32 t → Tok Good (T.Identifier ∷ []) n → WfValue Good 32 v → (k : Calm documentEnd r) →
         parseDefinition (on (bares c) (coreDefinition ind (Const l c t n v) r)) ≡ ok (forgetDefinition (dropParams (Const l c t n v))) (pos nowhere (k .held) (k .left))
-    unfolding coreDefinition parseConst taken bind here forgetDefinition dropParams place
+    unfolding coreDefinition parseConst taken bind here moveDefinition dropParams place
     const-rt t n v k = simp (pick-const, next-keyword, gap-rt, parse-type-rt Good t, want-own Good n, want-mark, parse-value-rt Good v, k .passes, span-nowhere)
 
     typedef-rt : {t : FieldType} {n : Lexeme} → WfType Good 32 t → Tok Good (T.Identifier ∷ []) n →
         parseDefinition (on (bares c) (coreDefinition ind (Typedef l c t n) r)) ≡ ok (forgetDefinition (dropParams (Typedef l c t n))) (on [] r)
-    unfolding coreDefinition parseTypedef taken bind forgetDefinition dropParams place
+    unfolding coreDefinition parseTypedef taken bind moveDefinition dropParams place
     typedef-rt t n = simp (pick-typedef, next-keyword, gap-rt, parse-type-rt Good t, want-own Good n, place-bare, span-nowhere)
 
     enum-rt : {n : Lexeme} {xs : List EnumMember} {a : Annotations} → Tok Good (T.Identifier ∷ []) n → All (WfMember Good) xs → length xs < most → WfAnnotations Good a → Free (T.LeftParen ∷ []) r →
         parseDefinition (on (bares c) (coreDefinition ind (Enum l c n xs a) r)) ≡ ok (forgetDefinition (dropParams (Enum l c n xs a))) (on [] r)
-    unfolding coreDefinition writeBody parseEnum parseMembers taken bind here forgetDefinition dropParams place
+    unfolding coreDefinition writeBody parseEnum parseMembers taken bind here moveDefinition dropParams place
     enum-rt n xs g a k =
         simp (pick-enum, next-keyword, gap-rt, want-own Good n, want-mark, members-rt Good ind xs g, annotations-rt Good a [] (line ∷ r) (free-gap (T.LeftParen ∷ []) (10 ∷ []) k), span-nowhere)
 
     structure-rt : (s : Structure) {n : Lexeme} {fs : List Field} {a : Annotations} → Tok Good (T.Identifier ∷ []) n → All (WfField Good) fs → length fs < most → WfAnnotations Good a → Free (T.LeftParen ∷ []) r →
         parseDefinition (on (bares c) (coreDefinition ind (structure s l c n fs a) r)) ≡ ok (forgetDefinition (dropParams (structure s l c n fs a))) (on [] r)
-    unfolding coreDefinition writeBody parseStructure parseMembers taken bind here forgetDefinition dropParams
+    unfolding coreDefinition writeBody parseStructure parseMembers taken bind here moveDefinition dropParams
     structure-rt s n fs g a k =
         simp (pick-structure, next-structure, structure-place, gap-rt, want-own Good n, want-mark, fields-rt Good ind fs g, annotations-rt Good a [] (line ∷ r) (free-gap (T.LeftParen ∷ []) (10 ∷ []) k), span-nowhere)
 
@@ -1226,7 +1227,7 @@ module _ (Good : Token → List ℕ → Type 0) (ind : List ℕ) where
     service-rt : {n : Lexeme} {x : Option Lexeme} {fs : List Function} {a : Annotations} → Tok Good (T.Identifier ∷ []) n → WfOption Good (T.Identifier ∷ []) x → All (WfFunction Good) fs → length fs < most →
         WfAnnotations Good a → Free (T.LeftParen ∷ []) r →
         parseDefinition (on (bares c) (coreDefinition ind (Service l c n x fs a) r)) ≡ ok (forgetDefinition (dropParams (Service l c n x fs a))) (on [] r)
-    unfolding coreDefinition parseService taken bind here forgetDefinition dropParams place
+    unfolding coreDefinition parseService taken bind here moveDefinition dropParams place
     service-rt {fs = fs'} {a = a'} n x fs g a k =
         simp (
           pick-service,
@@ -1286,7 +1287,7 @@ module _ (Good : Token → List ℕ → Type 0) (ind : List ℕ) where
 
   each-definition-rt : {ds : List Definition} → All (WfDefinition Good) ds → length ds < most →
       parseDocument (on [] (writeEach nothing (writeDefinition ind) ds [])) ≡ ok (forget (maps dropParams ds)) (on [] [])
-  unfolding parseDocument many nothing forget
+  unfolding parseDocument many nothing move
   each-definition-rt {ds} h l =
       rw (← maps-two dropParams forgetDefinition ds)
       (loop-rt documentEnd parseDefinition (λ d. forgetDefinition (dropParams d)) nothing (writeDefinition ind) (WfDefinition Good) (Calm documentEnd)

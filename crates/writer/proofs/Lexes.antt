@@ -42,13 +42,14 @@ use Rattle.lexer.specs.Limit.{limit}
 use Rattle.lexer.proofs.CutLaws.{cuts-nil, cuts-hit}
 use Rattle.utf8.proofs.Utf8Laws.{well-join, well-ascii, Ascii}
 use Rattle.writer.specs.Print.{Piece, bytesOf}
-use Rattle.ast.proofs.Forget.{nowhere, bareL, bares}
+use Rattle.ast.specs.Move.{moveL, moves}
+use Rattle.ast.proofs.Forget.{nowhere, bares}
 use Rattle.writer.proofs.Toks.{toks, Blanks, bnil, bspace, bline, Mark, left-brace, right-brace, left-bracket, right-bracket, left-angle, right-angle, left-paren, right-paren, colon, comma, equals, Good, Sep, snil, sgap, smark, sword, snote}
 
 -- ---- places decide nothing
 
 free : (cs : Cuts) (s u : Lexer) → bares (lexemes cs s) ≡ bares (lexemes cs u)
-unfolding lexemes bares bareL
+unfolding lexemes moves moveL
 free end s u = refl
 free stuck s u = refl
 free (cut k w r cs) s u = go (skipped k) (between s (pass w k r s)) (between u (pass w k r u)) (free cs (pass w k r s) (pass w k r u))
@@ -72,12 +73,12 @@ pub record Gives (cs : Cuts) (ts : List Lexeme) : Type 0 where
   pub passes : (a : ℕ) → unrecognized cs a ≡ none
 
 gives-end : Gives end []
-unfolding lexemes bares unrecognized
+unfolding lexemes moves unrecognized
 gives-end = record { reads = λ s. refl; passes = λ a. refl }
 
 module _ (k : Token) (w r : List ℕ) (cs : Cuts) (ts : List Lexeme) where
   gives-token : skipped k ≡ false → Gives cs ts → Gives (cut k w r cs) (lexeme k w nowhere ∷ ts)
-  unfolding lexemes bares bareL unrecognized
+  unfolding lexemes moves moveL unrecognized
   gives-token e g = record {
     reads = λ s. rw e (ap (λ (l : List Lexeme). lexeme k w nowhere ∷ l) (g .reads (pass w k r s)));
     passes = λ a. g .passes (a + length w);
