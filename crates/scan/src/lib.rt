@@ -53,7 +53,7 @@ pub const NONE: u8 = 58;
 
 pub const BLANK: u8 = 59;
 
-// Whether a byte of this class ends a line: `\n`, or `\r` and `\f`.
+// Whether a byte of this class is a line end: `\n`, or `\r` and `\f`.
 pub fn is_line_end(k: u8) -> bool
     ensures { λ r. ⌜ r ≡ (eqb k 39 || eqb k 40) ⌝ }
 {
