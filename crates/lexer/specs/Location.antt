@@ -16,6 +16,11 @@ use Rattle.lexer.specs.declared.location.LOC.{LOC}
 unfoldable pub pair : ℕ → List ℕ → Bool
 pair b r = eqb b 13 && eqb (getD r 0 0) 10
 
+-- such a pair stands in a text (no rule asks for this: it tells the texts whose lines are not rico's)
+unfoldable pub hasPair : List ℕ → Bool
+hasPair [] = false
+hasPair (b ∷ t) = pair b t || hasPair t
+
 -- THE LINE RULE: whether the byte b of a lexeme of the kind k, r being the text behind that byte, ends a line.
 -- `\n`, `\f`, and a `\r` that no `\n` follows do between tokens; in a block comment only `\n`
 unfoldable pub endsLine : Token → ℕ → List ℕ → Bool

@@ -4,7 +4,7 @@
 --     alike-tokens   in every text the tokens have the same kinds, bytes and indexes
 --     alike          so what is refused, read and printed is the same, but for lines and columns of the records
 use mathlib.Core.Path.{_≡_, refl, sym, ap, _∙_}
-use mathlib.Core.Bool.{Bool, true, false, cond, not, _&&_, and-true, and-eq-true-iff}
+use mathlib.Core.Bool.{Bool, true, false, cond, _||_, and-true, false≢true}
 use mathlib.Core.List.{List, [], _∷_, _++_}
 use Prim.Native.Nat.{ℕ, zero, suc, _+_, _≤_}
 use native.Mathlib.Omega.{arith}
@@ -19,7 +19,7 @@ use Rattle.lexer.specs.declared.location.Lexer.{Lexer}
 use Rattle.lexer.specs.Outcome.{Outcome, accepted, refused}
 use Rattle.lexer.specs.Cuts.{Cuts, end, stuck, cut, cuts}
 use Rattle.lexer.specs.Location as L
-use Rattle.lexer.specs.Location.{pair, behind, between, spanOf, opening}
+use Rattle.lexer.specs.Location.{pair, hasPair, behind, between, spanOf, opening}
 use Rattle.lexer.specs.Tokens as K
 use Rattle.lexer.specs.Tokens.{Lexeme, lexeme, skipped}
 use Rattle.lexer.specs.Check.{checked}
@@ -28,7 +28,7 @@ use Rattle.lexer.proofs.CutLaws as CutLaws
 use Rattle.lexer.proofs.CutLaws.{hit-fits, cuts-nil, cuts-miss, cuts-hit}
 use Rattle.parser.specs.Read as R
 use Rattle.ast.specs.Move.{moveLoc, moveL, moves, unlined}
-use Rattle.rico.specs.Lines.{endsLine, pass, lexemes, tokens, outcomeBy, outcome, unpaired, unlinedOutcome, Alike}
+use Rattle.rico.specs.Lines.{endsLine, pass, lexemes, tokens, outcomeBy, outcome, unlinedOutcome, Alike}
 use Rattle.rico.proofs.Alike.{answered-alike, outcomes-alike}
 
 -- ---- the cuts of a text are its parts
@@ -61,38 +61,38 @@ parts t = parts-from (length t) t (omega arith)
 
 -- ---- a text without the pair
 
-unpaired-first : (b : ℕ) (t : List ℕ) → unpaired (b ∷ t) ≡ true → (pair b t ≡ false) × (unpaired t ≡ true)
-unfolding unpaired
-unpaired-first b t e = let h = and-eq-true-iff (not (pair b t)) (unpaired t) .0 e in (negated (pair b t) (h .0), h .1)
-  where
-    negated : (p : Bool) → not p ≡ true → p ≡ false
-    negated true e = sym e
-    negated false e = refl
+neither : (p q : Bool) → (p || q) ≡ false → (p ≡ false) × (q ≡ false)
+neither true q e = absurd (false≢true (sym e))
+neither false q e = (refl, e)
 
-unpaired-right : (w r : List ℕ) → unpaired (w ++ r) ≡ true → unpaired r ≡ true
-unpaired-right [] r e = e
-unpaired-right (b ∷ w) r e = unpaired-right w r (unpaired-first b (w ++ r) e .1)
+pair-first : (b : ℕ) (t : List ℕ) → hasPair (b ∷ t) ≡ false → (pair b t ≡ false) × (hasPair t ≡ false)
+unfolding hasPair
+pair-first b t e = neither (pair b t) (hasPair t) e
+
+pair-right : (w r : List ℕ) → hasPair (w ++ r) ≡ false → hasPair r ≡ false
+pair-right [] r e = e
+pair-right (b ∷ w) r e = pair-right w r (pair-first b (w ++ r) e .1)
 
 same-ends : (k : Token) (b : ℕ) (r : List ℕ) → pair b r ≡ false → L.endsLine k b r ≡ endsLine k b
 unfolding L.endsLine endsLine
 same-ends k b r e = rw (e, and-true (is k T.Newline))
 
-same-pass : (w : List ℕ) (k : Token) (r : List ℕ) (s : Lexer) → unpaired (w ++ r) ≡ true → L.pass w k r s ≡ pass w k s
+same-pass : (w : List ℕ) (k : Token) (r : List ℕ) (s : Lexer) → hasPair (w ++ r) ≡ false → L.pass w k r s ≡ pass w k s
 unfolding L.pass pass
 same-pass [] k r s e = refl
 same-pass (b ∷ w) k r s e =
-    let h = unpaired-first b (w ++ r) e in
+    let h = pair-first b (w ++ r) e in
     rw (same-ends k b (w ++ r) (h .0)) (same-pass w k r (behind (endsLine k b) s) (h .1))
 
-same-lexemes : (cs : Cuts) (t : List ℕ) (s : Lexer) → Parts cs t → unpaired t ≡ true → K.lexemes cs s ≡ lexemes cs s
+same-lexemes : (cs : Cuts) (t : List ℕ) (s : Lexer) → Parts cs t → hasPair t ≡ false → K.lexemes cs s ≡ lexemes cs s
 unfolding K.lexemes lexemes
 same-lexemes end t s p e = refl
 same-lexemes stuck t s p e = refl
 same-lexemes (cut k w r cs) t s p e =
-    let f : unpaired (w ++ r) ≡ true = rw (p .0) e in
-    rw (same-pass w k r s f, same-lexemes cs r (pass w k s) (p .1) (unpaired-right w r f))
+    let f : hasPair (w ++ r) ≡ false = rw (p .0) e in
+    rw (same-pass w k r s f, same-lexemes cs r (pass w k s) (p .1) (pair-right w r f))
 
-module _ (t : List ℕ) (e : unpaired t ≡ true) where
+module _ (t : List ℕ) (e : hasPair t ≡ false) where
   pub same-tokens : K.tokens t opening ≡ tokens t
   unfolding K.tokens tokens opening
   same-tokens = same-lexemes (cuts t) t _ (parts t) e

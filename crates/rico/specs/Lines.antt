@@ -1,7 +1,7 @@
 -- rico's own line rule, a reading by it, and what two readings have in common whose places differ in lines and columns alone (document 02, Change 1).
 use Prim.Native.Nat.{ℕ}
 use mathlib.Core.Path.{_≡_}
-use mathlib.Core.Bool.{Bool, true, cond, not, _&&_, _||_}
+use mathlib.Core.Bool.{Bool, cond, _&&_, _||_}
 use mathlib.Core.List.{List, [], _∷_}
 use lib.Dec.{eqb}
 use Rattle.token.specs.Code.{is}
@@ -10,7 +10,7 @@ use Rattle.token.specs.declared.Token.the-variants as T
 use Rattle.lexer.specs.declared.location.Lexer.{Lexer}
 use Rattle.lexer.specs.Outcome.{Outcome, accepted, refused}
 use Rattle.lexer.specs.Cuts.{Cuts, end, stuck, cut, cuts}
-use Rattle.lexer.specs.Location.{pair, behind, between, opening}
+use Rattle.lexer.specs.Location.{behind, between, opening}
 use Rattle.lexer.specs.Tokens.{Lexeme, lexeme, skipped}
 use Rattle.lexer.specs.Check.{checked}
 use Rattle.ast.specs.Ast.{Definition}
@@ -50,11 +50,6 @@ outcomeBy (refused e p n) t = refused e p n
 
 unfoldable pub outcome : List ℕ → Outcome (List Definition)
 outcome t = outcomeBy (checked t) t
-
--- no `\r` of the text stands directly before `\n`
-unfoldable pub unpaired : List ℕ → Bool
-unpaired [] = true
-unpaired (b ∷ t) = not (pair b t) && unpaired t
 
 -- an outcome without lines and columns; a refusal's place and length are indexes, and stay
 unfoldable pub unlinedOutcome : Outcome (List Definition) → Outcome (List Definition)

@@ -1,0 +1,47 @@
+-- rico's places on the smallest text with the pair.
+use mathlib.Core.Path.{refl}
+use mathlib.Core.List.{[], _∷_}
+use Rattle.token.specs.Code.{code, is, among}
+use Rattle.token.specs.Regex.{bytes, ranges, within, nullable, isNothing, then, or, deriv}
+use Rattle.token.specs.Patterns.{
+  oneOf,
+  noneOf,
+  plus,
+  opt,
+  exact,
+  wordRule,
+  token,
+  words,
+  marks,
+  name,
+  quoted,
+  digits,
+  sign,
+  exponent,
+  point,
+  stars,
+  shapes,
+  rest,
+  rules,
+}
+use Rattle.token.specs.Scan.{derivs, first, keep, scanFrom, scan}
+use Rattle.utf8.specs.Utf8.{tail, sequences, begins, width, sequence, illFrom, illFormed}
+use Rattle.lexer.specs.Cuts.{cutAt, cutsFrom, cuts, unrecognized}
+use Rattle.lexer.specs.Location.{behind, spanOf, between, opening}
+use Rattle.lexer.specs.Tokens.{skipped}
+use Rattle.lexer.specs.Check.{verdict, checked}
+use Rattle.lexer.specs.Limit.{limit}
+use Rattle.ast.specs.Tree as A
+use Rattle.ast.specs.Records as R
+use Rattle.parser.specs.Steps as S
+use Rattle.parser.specs.Types as Y
+use Rattle.parser.specs.Values as Val
+use Rattle.parser.specs.Definitions as D
+use Rattle.parser.specs.Read.{endRule, answered}
+use Rattle.parser.specs.Edges.{Meets}
+use Rattle.rico.specs.Lines as I
+
+-- document 01's CRLF case as it was: line 3, column 1
+pub crlf-was : Meets (I.outcome (bytes "\r\nenum E{}")) ((6 ∷ 4294967295 ∷ 0 ∷ 2 ∷ 3 ∷ 1 ∷ 10 ∷ 3 ∷ 9 ∷ []) ∷ (16 ∷ 0 ∷ 0 ∷ 7 ∷ 3 ∷ 6 ∷ 8 ∷ 3 ∷ 7 ∷ []) ∷ []) []
+unfolding code is among bytes ranges within nullable isNothing then or deriv oneOf noneOf plus opt exact wordRule token words marks name quoted digits sign exponent point stars shapes rest rules derivs first keep scanFrom scan tail sequences begins width sequence illFrom illFormed cutAt cutsFrom cuts unrecognized I.endsLine behind I.pass spanOf between opening skipped I.lexemes I.tokens verdict checked endRule answered I.outcomeBy I.outcome S.kind S.bytes S.place S.span S.bind S.test S.peek S.when S.fail S.refuse S.next S.want S.start S.here S.taken S.fate S.by S.pass S.skip S.skip-separator S.skip-comments S.skip-comments-discard S.skip-trivia S.closed S.loop S.many Y.complexType Y.mapType Y.containerType Y.typeBy Y.fieldType Val.valuesEnd Val.put Val.mapProperty Val.listValue Val.mapValue Val.containerValue Val.valueBy Val.fieldValue D.parseType D.parseValue D.oneSeparator D.parseAnnotation D.annotationsEnd D.parseAnnotations D.decimal D.isId D.parseFieldId D.parseRequired D.parseDefault D.parseField D.membersEnd D.parseMembers D.parseParameters D.parseThrows D.parseReturnType D.parseOneway D.parseFunction D.parseInitializer D.parseEnumMember D.parseInclude D.parseNamespace D.parseConst D.parseTypedef D.parseEnum D.parseStructure D.parseExtends D.parseService D.parseDefinition D.over D.documentEnd D.parseDocument A.leaf A.inner A.single A.both A.each A.perhaps A.nameTree A.idTree A.typeTree A.valueKind A.literalTree A.valueTree A.elementTrees A.propertyTrees A.annotationTree A.annotationsTree A.requiredFlag A.fieldTree A.memberTree A.onewayFlag A.throwsFlag A.throwsTrees A.functionTree A.structureKind A.definitionTree R.width R.noParent R.row R.size R.sizes R.rows R.rowsOf R.commentRow R.owned R.commentRows R.commentRowsOf R.forest R.nodeRows R.notes
+crlf-was = (refl, refl)
