@@ -1,23 +1,47 @@
 // Reads each text of the list on standard input, and compares every record, count and refusal with rico's.
 //
 // The crate replay says what the list holds. The tables are lent full of sevens; what lies past the answer must be 0 afterwards.
-use libc::STDIN_FILENO;
+// Rico counts CR LF for two lines, the port for one (docs/DIFFERENCES.md): in a text that has it lines are not compared, all else is.
 use parser::Answer;
 use replay::COMMENTS;
 use replay::NODES;
 use replay::SPACE;
+use replay::Tally;
+
+// Where the lines stand in a record, each behind the index.
+const START_LINE: usize = ast::column::START + 1;
+
+const END_LINE: usize = ast::column::END + 1;
+
+// Whether a number of a table is a line.
+fn is_line(i: usize) -> bool {
+    let column = i % ast::WIDTH;
+    if column == START_LINE {
+        return true;
+    }
+    column == END_LINE
+}
+
+// Whether the number at an index of a table is rico's; in a text with CR LF a line may be another.
+fn same_number(table: &[u32], i: usize, number: u32, paired: bool) -> bool {
+    if table.len() <= i {
+        return false;
+    }
+    if table[i] == number {
+        return true;
+    }
+    if paired { is_line(i) } else { false }
+}
 
 // Whether the next `count` records of the list stand in the table, and 0 past them.
-fn same_records(table: &[u32], count: u32) -> bool {
-    let end = count as usize * 9;
-    let mut same = end <= table.len();
+fn same_records(table: &[u32], count: u32, paired: bool) -> bool {
+    let end = count as usize * ast::WIDTH;
+    let mut same = true;
     let mut i: usize = 0;
     while i < end {
         let number = replay::read_number();
-        if i < table.len() {
-            if table[i] != number {
-                same = false;
-            }
+        if !same_number(table, i, number, paired) {
+            same = false;
         }
         i += 1;
     }
@@ -71,14 +95,14 @@ fn same_counts(answer: Answer, nodes: u32, comments: u32) -> bool {
 }
 
 // Whether the answer has the list's counts and records.
-fn same_reading(answer: Answer, nodes: &[u32], comments: &[u32]) -> bool {
+fn same_reading(answer: Answer, nodes: &[u32], comments: &[u32], paired: bool) -> bool {
     replay::read_number();
     replay::read_number();
     let node_count = replay::read_number();
     let comment_count = replay::read_number();
     let counts = same_counts(answer, node_count, comment_count);
-    let node_records = same_records(nodes, node_count);
-    let comment_records = same_records(comments, comment_count);
+    let node_records = same_records(nodes, node_count, paired);
+    let comment_records = same_records(comments, comment_count, paired);
     replay::pass_part();
     replay::pass_part();
     replay::pass_part();
@@ -91,8 +115,8 @@ fn same_reading(answer: Answer, nodes: &[u32], comments: &[u32]) -> bool {
     comment_records
 }
 
-// Reads the next text of the list, and tells whether all is as the list has it.
-fn same_text(text: &[u8]) -> bool {
+// Reads a text, and tells whether all is as the list has it.
+fn same_text(text: &[u8], paired: bool) -> bool {
     let mut nodes: [u32; NODES] = [7; NODES];
     let mut comments: [u32; COMMENTS] = [7; COMMENTS];
     let answer = reader::read(text, &mut nodes, &mut comments);
@@ -100,37 +124,37 @@ fn same_text(text: &[u8]) -> bool {
     if number != 0 {
         return same_refusal(answer, number, &nodes, &comments);
     }
-    same_reading(answer, &nodes, &comments)
+    same_reading(answer, &nodes, &comments, paired)
 }
 
-fn same_next(space: &mut [u8]) -> bool {
-    let length = replay::read_number() as usize;
-    if space.len() < length {
-        return false;
-    }
-    let n = io::read_full(STDIN_FILENO, &mut space[..length]);
-    if n != length {
-        return false;
-    }
-    same_text(&space[..length])
+// Compares a text.
+fn compare_text(text: &[u8], tally: Tally) -> Tally {
+    let paired = replay::has_pair(text);
+    tally.with(same_text(text, paired), paired)
 }
 
-// Compares all texts, and answers how many differ.
-fn compare(texts: u32) -> u32 {
+// Compares the next text of the list.
+fn compare_next(space: &mut [u8], tally: Tally) -> Tally {
+    let length = replay::read_part(space);
+    compare_text(&space[..length], tally)
+}
+
+// Compares all texts.
+fn compare(texts: u32) -> Tally {
     let mut space: [u8; SPACE] = [0; SPACE];
-    let mut differing: u32 = 0;
+    let mut tally = Tally::new();
     for i in 0..texts {
-        if !same_next(&mut space) {
+        let now = compare_next(&mut space, tally);
+        if now.differing != tally.differing {
             replay::write_differing(i);
-            differing = ast::bump(differing);
         }
+        tally = now;
     }
-    differing
+    tally
 }
 
 fn main() {
     let texts = replay::read_number();
-    let differing = compare(texts);
-    replay::write_count(texts, b" texts, ");
-    replay::write_count(differing, b" differ\n");
+    let tally = compare(texts);
+    replay::write_tally(texts, tally);
 }

@@ -1,4 +1,5 @@
 // Cuts each text of the list on standard input, and compares every token with rico's.
+// Rico counts CR LF for two lines, the port for one (docs/DIFFERENCES.md): in a text that has it lines are not compared, all else is.
 //
 // The list holds little-endian numbers of 4 bytes. First the count of texts, then for each text:
 //     its length, and its bytes
@@ -11,6 +12,7 @@ use lexer::location::ParserToken;
 use lexer::location::Span;
 use libc::STDIN_FILENO;
 use libc::STDOUT_FILENO;
+use replay::Tally;
 ghost use mathlib.Core.Path.{_≡_};
 ghost use Prim.Native.Nat.{_+_, _≤_};
 ghost use lib.ListN.{length};
@@ -40,8 +42,8 @@ enum Read {
 
 // What the comparison of all texts finds.
 enum Outcome {
-    // how many texts differ
-    Compared(u32),
+    // how many texts differ, and how many have CR LF
+    Compared(Tally),
     // the list is cut short
     Short,
     // bytes are left behind the last text
@@ -82,21 +84,29 @@ fn text_at(list: &[u8], at: usize) -> Read
     })
 }
 
+// Whether a line is rico's; in a text with CR LF it may be another.
+fn same_line(line: u32, rico: u32, paired: bool) -> bool {
+    if paired {
+        return true;
+    }
+    line == rico
+}
+
 // Whether index, line and column of a place stand at an offset.
-fn same_span(rows: &[u8], at: usize, span: Span) -> bool
+fn same_span(rows: &[u8], at: usize, span: Span, paired: bool) -> bool
     requires { ⌜ at + 12 ≤ length (now rows) ⌝ }
 {
     if replay::number(rows, at) != span.index {
         return false;
     }
-    if replay::number(rows, at + 4) != span.line {
+    if !same_line(span.line, replay::number(rows, at + 4), paired) {
         return false;
     }
     replay::number(rows, at + 8) == span.column
 }
 
 // Whether a token stands at an offset.
-fn same_token(rows: &[u8], at: usize, token: ParserToken) -> bool
+fn same_token(rows: &[u8], at: usize, token: ParserToken, paired: bool) -> bool
     requires { ⌜ at + 28 ≤ length (now rows) ⌝ }
 {
     let kind = token.token;
@@ -104,10 +114,10 @@ fn same_token(rows: &[u8], at: usize, token: ParserToken) -> bool
     if replay::number(rows, at) != kind.code() {
         return false;
     }
-    if !same_span(rows, at + 4, loc.start) {
+    if !same_span(rows, at + 4, loc.start, paired) {
         return false;
     }
-    same_span(rows, at + 16, loc.end)
+    same_span(rows, at + 16, loc.end, paired)
 }
 
 // Whether what follows the last token is what the verdict says.
@@ -128,6 +138,7 @@ fn same_end(next: Next, verdict: u32, place: u32) -> bool {
 fn same_tokens(lut: &[u8; 768], text: &[u8], rows: &[u8], verdict: u32, place: u32) -> bool
     requires { ⌜ (now lut ≡ tables) × (length (now text) ≤ limit) ⌝ }
 {
+    let paired = replay::has_pair(text);
     let mut from = Lexer::new();
     let mut at: usize = 0;
     while ROW <= rows.len() - at {
@@ -135,7 +146,7 @@ fn same_tokens(lut: &[u8; 768], text: &[u8], rows: &[u8], verdict: u32, place: u
         let Next::On(token, behind) = next else {
             return false;
         };
-        if !same_token(rows, at, token) {
+        if !same_token(rows, at, token, paired) {
             return false;
         }
         from = behind;
@@ -180,19 +191,26 @@ fn same_text(text: &[u8], rows: &[u8], verdict: u32, place: u32) -> bool {
     }
 }
 
-// The same of a text of the list.
-fn same_entry(list: &[u8], text: Text) -> bool
+// Compares a text.
+fn compare_text(text: &[u8], rows: &[u8], verdict: u32, place: u32, tally: Tally) -> Tally {
+    let same = same_text(text, rows, verdict, place);
+    tally.with(same, replay::has_pair(text))
+}
+
+// Compares a text of the list.
+fn compare_entry(list: &[u8], text: Text, tally: Tally) -> Tally
     requires { ⌜ Inside (length (now list)) text ⌝ }
 {
     let start = text.start;
     let end = text.end;
     let rows = text.rows;
     let next = text.next;
-    same_text(
+    compare_text(
         &list[start..end],
         &list[rows..next],
         text.verdict,
         text.place,
+        tally,
     )
 }
 
@@ -201,24 +219,23 @@ fn compare(list: &[u8], texts: u32) -> Outcome
     requires { ⌜ 4 ≤ length (now list) ⌝ }
 {
     let mut at: usize = 4;
-    let mut differing: u32 = 0;
-    let mut i: u32 = 0;
-    while i < texts {
+    let mut tally = Tally::new();
+    for i in 0..texts {
         let read = text_at(list, at);
         let Read::Text(text) = read else {
             return Outcome::Short;
         };
-        if !same_entry(list, text) {
+        let now = compare_entry(list, text, tally);
+        if now.differing != tally.differing {
             replay::write_differing(i);
-            differing += 1;
         }
+        tally = now;
         at = text.next;
-        i += 1;
     }
     if at < list.len() {
         return Outcome::Long;
     }
-    Outcome::Compared(differing)
+    Outcome::Compared(tally)
 }
 
 // Compares all texts of the list and says what differs.
@@ -230,9 +247,8 @@ fn compare_list(list: &[u8]) {
     let texts = replay::number(list, 0);
     let outcome = compare(list, texts);
     match outcome {
-        Outcome::Compared(differing) => {
-            replay::write_count(texts, b" texts, ");
-            replay::write_count(differing, b" differ\n");
+        Outcome::Compared(tally) => {
+            replay::write_tally(texts, tally);
         }
         Outcome::Short => {
             io::write_all(STDOUT_FILENO, b"the list ends early\n");
