@@ -150,8 +150,21 @@ pub fn zero_from(table: &[u32], start: usize) -> bool
     true
 }
 
+// Whether two tables are the same.
+pub fn same_numbers(a: &[u32], b: &[u32]) -> bool {
+    if a.len() != b.len() {
+        return false;
+    }
+    for k in 0..a.len() {
+        if a[k] != b[k] {
+            return false;
+        }
+    }
+    true
+}
+
 // Whether `\r` stands at an offset, and `\n` directly behind it.
-fn is_pair(text: &[u8], at: usize) -> bool
+pub fn is_pair(text: &[u8], at: usize) -> bool
     ensures { λ r. ⌜ r ≡ pairAt (now (text .entry)) at ⌝ }
 {
     if text.len() <= at {
@@ -198,5 +211,5 @@ pub fn write_count(number: u32, what: &[u8]) {
 pub fn write_tally(texts: u32, tally: Tally) {
     write_count(texts, b" texts, ");
     write_count(tally.differing, b" differ; ");
-    write_count(tally.paired, b" with CR LF, lines not compared there\n");
+    write_count(tally.paired, b" with CR LF\n");
 }

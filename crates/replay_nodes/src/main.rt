@@ -1,7 +1,8 @@
 // Reads each text of the list on standard input, and compares every record, count and refusal with rico's.
 //
 // The crate replay says what the list holds. The tables are lent full of sevens; what lies past the answer must be 0 afterwards.
-// Rico counts CR LF for two lines, the port for one (docs/DIFFERENCES.md): in a text that has it lines are not compared, all else is.
+// Rico counts CR LF between tokens for two lines, the port for one (docs/DIFFERENCES.md). In a text that has it lines are not compared with rico's, all else is;
+// its tables must be those of the text with a space for each `\r` directly before `\n`: the same tokens, and no CR LF.
 use parser::Answer;
 use replay::COMMENTS;
 use replay::NODES;
@@ -115,16 +116,75 @@ fn same_reading(answer: Answer, nodes: &[u32], comments: &[u32], paired: bool) -
     comment_records
 }
 
-// Reads a text, and tells whether all is as the list has it.
+// A byte of a text, a space for `\r` directly before `\n`; 0 behind the text.
+fn spaced_byte(text: &[u8], at: usize) -> u8 {
+    if text.len() <= at {
+        return 0;
+    }
+    if replay::is_pair(text, at) {
+        b' '
+    } else {
+        text[at]
+    }
+}
+
+// Lays a text into a space, with those spaces.
+fn lay_spaced(space: &mut [u8], text: &[u8]) {
+    for at in 0..space.len() {
+        space[at] = spaced_byte(text, at);
+    }
+}
+
+// Whether a text has no CR LF, and these are its tables.
+fn has_tables(text: &[u8], nodes: &[u32], comments: &[u32]) -> bool {
+    let mut other_nodes: [u32; NODES] = [7; NODES];
+    let mut other_comments: [u32; COMMENTS] = [7; COMMENTS];
+    reader::read(text, &mut other_nodes, &mut other_comments);
+    if replay::has_pair(text) {
+        return false;
+    }
+    if !replay::same_numbers(nodes, &other_nodes) {
+        return false;
+    }
+    replay::same_numbers(comments, &other_comments)
+}
+
+// Whether the tables of a text are those of the text with the spaces, which a space as long takes.
+fn same_laid(space: &mut [u8], text: &[u8], nodes: &[u32], comments: &[u32]) -> bool {
+    lay_spaced(space, text);
+    has_tables(space, nodes, comments)
+}
+
+fn same_spaced(text: &[u8], nodes: &[u32], comments: &[u32]) -> bool {
+    let mut space: [u8; SPACE] = [0; SPACE];
+    let length = text.len();
+    if SPACE < length {
+        return false;
+    }
+    same_laid(&mut space[..length], text, nodes, comments)
+}
+
+// Whether the answer and the tables are as the list has them.
+fn same_answer(answer: Answer, nodes: &[u32], comments: &[u32], paired: bool) -> bool {
+    let number = replay::read_number();
+    if number != 0 {
+        return same_refusal(answer, number, nodes, comments);
+    }
+    same_reading(answer, nodes, comments, paired)
+}
+
+// Reads a text, and tells whether all is as the list has it, and the lines as they must be.
 fn same_text(text: &[u8], paired: bool) -> bool {
     let mut nodes: [u32; NODES] = [7; NODES];
     let mut comments: [u32; COMMENTS] = [7; COMMENTS];
     let answer = reader::read(text, &mut nodes, &mut comments);
-    let number = replay::read_number();
-    if number != 0 {
-        return same_refusal(answer, number, &nodes, &comments);
+    if !same_answer(answer, &nodes, &comments, paired) {
+        return false;
     }
-    same_reading(answer, &nodes, &comments, paired)
+    if paired {
+        return same_spaced(text, &nodes, &comments);
+    }
+    true
 }
 
 // Compares a text.

@@ -1,5 +1,5 @@
 // Cuts each text of the list on standard input, and compares every token with rico's.
-// Rico counts CR LF for two lines, the port for one (docs/DIFFERENCES.md): in a text that has it lines are not compared, all else is.
+// Rico counts CR LF between tokens for two lines, the port for one (docs/DIFFERENCES.md): a line is rico's less the pairs between the tokens before it.
 //
 // The list holds little-endian numbers of 4 bytes. First the count of texts, then for each text:
 //     its length, and its bytes
@@ -84,29 +84,29 @@ fn text_at(list: &[u8], at: usize) -> Read
     })
 }
 
-// Whether a line is rico's; in a text with CR LF it may be another.
-fn same_line(line: u32, rico: u32, paired: bool) -> bool {
-    if paired {
-        return true;
+// Whether a line is rico's less so many pairs of CR LF.
+fn same_line(line: u32, rico: u32, pairs: u32) -> bool {
+    if rico < line {
+        return false;
     }
-    line == rico
+    rico - line == pairs
 }
 
 // Whether index, line and column of a place stand at an offset.
-fn same_span(rows: &[u8], at: usize, span: Span, paired: bool) -> bool
+fn same_span(rows: &[u8], at: usize, span: Span, pairs: u32) -> bool
     requires { ⌜ at + 12 ≤ length (now rows) ⌝ }
 {
     if replay::number(rows, at) != span.index {
         return false;
     }
-    if !same_line(span.line, replay::number(rows, at + 4), paired) {
+    if !same_line(span.line, replay::number(rows, at + 4), pairs) {
         return false;
     }
     replay::number(rows, at + 8) == span.column
 }
 
 // Whether a token stands at an offset.
-fn same_token(rows: &[u8], at: usize, token: ParserToken, paired: bool) -> bool
+fn same_token(rows: &[u8], at: usize, token: ParserToken, pairs: u32) -> bool
     requires { ⌜ at + 28 ≤ length (now rows) ⌝ }
 {
     let kind = token.token;
@@ -114,10 +114,10 @@ fn same_token(rows: &[u8], at: usize, token: ParserToken, paired: bool) -> bool
     if replay::number(rows, at) != kind.code() {
         return false;
     }
-    if !same_span(rows, at + 4, loc.start, paired) {
+    if !same_span(rows, at + 4, loc.start, pairs) {
         return false;
     }
-    same_span(rows, at + 16, loc.end, paired)
+    same_span(rows, at + 16, loc.end, pairs)
 }
 
 // Whether what follows the last token is what the verdict says.
@@ -134,19 +134,33 @@ fn same_end(next: Next, verdict: u32, place: u32) -> bool {
     }
 }
 
+// So many pairs of CR LF, and those from an offset up to a token.
+fn add_pairs(text: &[u8], from: u32, token: ParserToken, pairs: u32) -> u32 {
+    let loc = token.loc;
+    let start = loc.start;
+    let mut count = pairs;
+    for at in from..start.index {
+        if replay::is_pair(text, at as usize) {
+            count = ast::bump(count);
+        }
+    }
+    count
+}
+
 // Whether the tokens of a text are those of the rows, and end as the verdict says.
 fn same_tokens(lut: &[u8; 768], text: &[u8], rows: &[u8], verdict: u32, place: u32) -> bool
     requires { ⌜ (now lut ≡ tables) × (length (now text) ≤ limit) ⌝ }
 {
-    let paired = replay::has_pair(text);
     let mut from = Lexer::new();
+    let mut pairs: u32 = 0;
     let mut at: usize = 0;
     while ROW <= rows.len() - at {
         let next = lexer::next_token(lut, text, from);
         let Next::On(token, behind) = next else {
             return false;
         };
-        if !same_token(rows, at, token, paired) {
+        pairs = add_pairs(text, from.at, token, pairs);
+        if !same_token(rows, at, token, pairs) {
             return false;
         }
         from = behind;
