@@ -117,7 +117,7 @@ def module(kind, head, theorems):
 source = open("crates/parser/proofs/Cases.antt").read()
 head, rest = source.split("pub edges-hold : All edges\n")
 opened = rest[: rest.index("edges-hold =")]
-head = re.sub(r"Edges\.\{[^}]*\}", "Edges.{Holds, refuses, accepts}", head)
+head = re.sub(r"Edges\.\{([^}]*)\}", lambda m: "Edges.{" + ", ".join(dict.fromkeys(["Holds", "refuses", "accepts", *m.group(1).split(", ")])) + "}", head)
 head = re.sub(r"^use ", "use mathlib.Core.List.{List, [], _∷_}\nuse ", head, count=1, flags=re.M)
 theorems = []
 for i, (text, refusal, nodes, comments, _) in enumerate(cases):
