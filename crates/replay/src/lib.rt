@@ -23,11 +23,6 @@ pub const NODES: usize = 9005;
 
 pub const COMMENTS: usize = 1804;
 
-// The bytes `\r` and `\n`, CR and LF.
-const RETURN: u8 = 13;
-
-const LINE_FEED: u8 = 10;
-
 // The kinds of two records, as the list's first byte of each.
 const FIELD: u8 = ast::kind::FIELD as u8;
 
@@ -170,14 +165,14 @@ pub fn is_pair(text: &[u8], at: usize) -> bool
     if text.len() <= at {
         return false;
     }
-    if text[at] != RETURN {
+    if text[at] != b'\r' {
         return false;
     }
     let next = at + 1;
     if text.len() <= next {
         return false;
     }
-    text[next] == LINE_FEED
+    text[next] == b'\n'
 }
 
 // Whether `\r` stands directly before `\n` anywhere in a text, strings and comments too.

@@ -155,6 +155,7 @@ fn same_laid(space: &mut [u8], text: &[u8], nodes: &[u32], comments: &[u32]) -> 
     has_tables(space, nodes, comments)
 }
 
+// The same with a space of its own.
 fn same_spaced(text: &[u8], nodes: &[u32], comments: &[u32]) -> bool {
     let mut space: [u8; SPACE] = [0; SPACE];
     let length = text.len();
