@@ -1,6 +1,7 @@
-"""A reading of document 01, written along its prose, to find where it and the Rust part.
+"""A reading of document 01 with Change 1, written along its prose, to find where it and the Rust part.
 
-answer(text) gives what `oracle nodes` prints; where rico panics it gives the end rule's refusal.
+answer(text) gives what `oracle nodes` prints, but for the lines of a text with CR LF; where rico panics it gives the end
+rule's refusal. same(text, rico, other) compares two answers as Change 1 says.
 """
 
 import longest
@@ -284,6 +285,21 @@ class Reader:
                 self.close(one)
             else:
                 self.value(me, depth + 1)
+
+
+# Of a row by its length, the numbers that are no line and no column: of a record, and of a token.
+NO_PLACES = {9: (0, 1, 2, 3, 6), 7: (0, 1, 4)}
+
+
+def unplaced(rows):
+    """The rows of records or tokens without lines and columns."""
+    words = (row.split() for row in rows.split("\n"))
+    return [[row[i] for i in NO_PLACES.get(len(row), range(len(row)))] for row in words]
+
+
+def same(text, rico, other):
+    """Whether rico's rows and others agree: in lines and columns too if the text has no CR LF."""
+    return rico == other or longest.PAIR in text and unplaced(rico) == unplaced(other)
 
 
 def answer(text):

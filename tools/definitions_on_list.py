@@ -3,6 +3,7 @@
 
 usage: tools/definitions_on_list.py [LONGEST [EVERY]]
 LONGEST: texts up to so many bytes (default 100); EVERY: each so-many-th of them (default 8), and the first of each refusal, kind and flags.
+Where a text has CR LF, which rico counts for two lines and document 01 with Change 1 for one, lines and columns are those of oracle/longest.py.
 Each text becomes a theorem by computation, in a crate of its own beside a copy of the crates under target/definitions: records, comments and refusals
 against parser/specs/Read, prints at 0, 2 and 8 against writer/specs/Print. The crates must be proved before (rt check writer). ASCII texts only. It is slow (about a tenth of a second a theorem) and no part of the gate."""
 import os
@@ -11,6 +12,11 @@ import shutil
 import struct
 import subprocess
 import sys
+
+sys.dont_write_bytecode = True
+sys.path.insert(0, "oracle")
+
+from longest import PAIR, cut
 
 longest = int(sys.argv[1]) if len(sys.argv) > 1 else 100
 every = int(sys.argv[2]) if len(sys.argv) > 2 else 8
@@ -30,6 +36,15 @@ def part(n):
     return data[at - n : at]
 
 
+def place(text, rows):
+    """Sets the lines and columns of records by Change 1; each stands where a token starts or ends."""
+    places = {}
+    for _, *token in cut(text)[0]:
+        places[token[0]], places[token[3]] = token[1:3], token[4:6]
+    for row in rows:
+        row[4:6], row[7:9] = places[row[3]], places[row[6]]
+
+
 def case():
     text = part(number())
     refusal = [number(), number(), number()]
@@ -37,6 +52,8 @@ def case():
         return text, refusal, None, None, None
     nodes, comments = number(), number()
     rows = [[number() for _ in range(9)] for _ in range(nodes + comments)]
+    if PAIR in text:
+        place(text, rows)
     return text, None, rows[:nodes], rows[nodes:], [part(number()) for _ in range(3)]
 
 
@@ -100,14 +117,14 @@ def module(kind, head, theorems):
 source = open("crates/parser/proofs/Cases.antt").read()
 head, rest = source.split("pub edges-hold : All edges\n")
 opened = rest[: rest.index("edges-hold =")]
-head = re.sub(r"Edges\.\{[^}]*\}", "Edges.{Holds, refuses, accepts}", head)
+head = re.sub(r"Edges\.\{([^}]*)\}", lambda m: "Edges.{" + ", ".join(dict.fromkeys(["Holds", "refuses", "accepts", *m.group(1).split(", ")])) + "}", head)
 head = re.sub(r"^use ", "use mathlib.Core.List.{List, [], _∷_}\nuse ", head, count=1, flags=re.M)
 theorems = []
 for i, (text, refusal, nodes, comments, _) in enumerate(cases):
     edge = f"refuses {quoted(text)} {' '.join(map(str, refusal))}" if refusal else f"accepts {quoted(text)} {listed(nodes, listed)} {listed(comments, listed)}"
     theorems.append(f"c{i} : Holds ({edge})\n{opened}c{i} = {'refl' if refusal else '(refl, refl)'}\n")
 module("Text", head, theorems)
-print(f"{len(cases)} texts, {sum(c[1] is None for c in cases)} of them accepted")
+print(f"{len(cases)} texts, {sum(c[1] is None for c in cases)} of them accepted, {sum(PAIR in c[0] for c in cases)} with CR LF")
 
 source = open("crates/writer/proofs/Cases.antt").read()
 head, rest = source.split("-- a reading and a printing of a text at an indent")

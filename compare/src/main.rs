@@ -3,6 +3,7 @@
 //! usage: compare SEED COUNT CORPUS ORACLE    (compare/run calls it)
 
 mod calls;
+mod lines;
 mod random;
 mod sides;
 mod texts;
@@ -34,6 +35,8 @@ struct Family {
     name: &'static str,
     texts: u64,
     accepted: u64,
+    /// With CR LF.
+    paired: u64,
     panics: u64,
     otherwise: u64,
     not_judged: u64,
@@ -58,6 +61,10 @@ struct Compare {
     numbers: [u64; 28],
     kinds: [u64; 34],
     flags: u32,
+    /// The records wanted of texts without CR LF; of texts with it; of those, with another line than rico's; with another column.
+    records: [u64; 4],
+    /// The texts with such a line.
+    moved: u64,
     longest_print: usize,
     began: Instant,
 }
@@ -125,6 +132,7 @@ fn compare(port: &mut Port, text: &[u8], care: Care, rng: &mut Rng) -> (Wanted, 
         Source::NotJudged => Ok(()),
         Source::PanicsElsewhere => Err(sides::fault("rico panics elsewhere", format!("end rule: {:?}", wanted.refusal))),
         Source::CutElsewhere => Err(sides::fault("rico cuts a keyword as an identifier elsewhere", String::new())),
+        Source::LinesPart => Err(sides::fault("the rule for CR LF and rico without it do not agree", String::new())),
         _ => ask(port, text, &wanted, care, rng),
     };
     (wanted, result)
@@ -156,8 +164,9 @@ impl Compare {
         let (wanted, result) = compare(&mut self.port, text, care, &mut rng);
         let family = self.families.last_mut().expect("a family");
         family.texts += 1;
+        family.paired += u64::from(lines::has_pair(text));
         match wanted.source {
-            Source::Rico => {}
+            Source::Rico | Source::LinesPart => {}
             Source::Panics | Source::PanicsElsewhere => family.panics += 1,
             Source::CutOtherwise | Source::CutElsewhere => family.otherwise += 1,
             Source::NotJudged => family.not_judged += 1,
@@ -172,6 +181,11 @@ impl Compare {
                         self.kinds[record[0] as usize] += 1;
                         self.flags |= record[2];
                     }
+                    let records = (wanted.nodes.len() + wanted.comments.len()) as u64 / 9;
+                    self.records[usize::from(lines::has_pair(text))] += records;
+                    self.records[2] += wanted.moved.0;
+                    self.records[3] += wanted.moved.1;
+                    self.moved += u64::from(wanted.moved.0 > 0);
                     self.longest_print = self.longest_print.max(wanted.prints.iter().map(Vec::len).max().unwrap_or(0));
                 }
             }
@@ -325,6 +339,32 @@ impl Compare {
         let dots: [&[u8]; 12] = [b"list", b"true", b"i8", b".", b"a", b" ", b"5", b"<", b">", b"_", b",", b"\n"];
         self.sequences(&dots, longest - 1, b"const i8 X=[", b"]");
         self.sequences(&dots, longest - 1, b"typedef ", b" T");
+    }
+
+    /// Texts with other line ends, CR LF foremost.
+    fn line_ends(&mut self, count: u64, corpus: &[Vec<u8>], longest: usize) {
+        self.begin("documents with CR LF and mixed line ends");
+        for number in 0..count {
+            let mut rng = self.rng(number);
+            let wrong = rng.one(&[0, 0, 0, 10]);
+            let text = texts::document(&mut rng, wrong);
+            let mut text = texts::other_ends(&mut rng, &text);
+            if rng.percent(20) {
+                text = texts::damaged(&mut rng, &text);
+            }
+            self.text(&text, Care::Usual);
+        }
+        self.begin("corpus with CR LF and mixed line ends");
+        for (number, text) in corpus.iter().enumerate() {
+            let mut rng = self.rng(number as u64);
+            for _ in 0..20 {
+                let text = texts::other_ends(&mut rng, text);
+                self.text(&text, Care::Usual);
+            }
+        }
+        self.begin("all short texts of line ends, strings and comments");
+        let ends: [&[u8]; 11] = [b"\r", b"\n", b"\x0c", b" ", b"#", b"//", b"/*", b"*/", b"include'", b"'", b"enum E{}"];
+        self.sequences(&ends, longest.max(5) - 1, b"", b"enum E{}");
     }
 
     /// Bytes that may or may not be UTF-8, alone and in a comment; every byte and pair of bytes is among them.
@@ -564,6 +604,7 @@ impl Compare {
             let made = self.list(&text, indent, length, &mut rng);
             let family = self.families.last_mut().expect("a family");
             family.texts += 1;
+            family.paired += u64::from(lines::has_pair(&text));
             if let Some(printings) = made {
                 family.accepted += 1;
                 printed.0 += u64::from(printings > 0);
@@ -579,6 +620,7 @@ impl Compare {
             let result = calls::pair(&mut self.port, &one, &other, &mut rng);
             let family = self.families.last_mut().expect("a family");
             family.texts += 1;
+            family.paired += u64::from(lines::has_pair(&one) || lines::has_pair(&other));
             match result {
                 Ok(accepted) => family.accepted += u64::from(accepted),
                 Err(fault) => self.differs(&one, fault),
@@ -682,6 +724,8 @@ fn run() -> u64 {
         numbers: [0; 28],
         kinds: [0; 34],
         flags: 0,
+        records: [0; 4],
+        moved: 0,
         longest_print: 0,
         began: Instant::now(),
     };
@@ -703,13 +747,15 @@ fn run() -> u64 {
     all.ids();
     let printed = all.demand(count / 10, &corpus);
     all.short(longest);
+    all.line_ends(count / 10, &corpus, longest);
     all.close();
 
-    println!("\n| texts | count | accepted | rico panics | cut otherwise | not judged | calls | differences |\n|---|---|---|---|---|---|---|---|");
+    println!("\n| texts | count | accepted | with CR LF | rico panics | cut otherwise | not judged | calls | differences |\n|---|---|---|---|---|---|---|---|---|");
     let mut sum = Family { name: "**all**", ..Family::default() };
     for f in &all.families {
         sum.texts += f.texts;
         sum.accepted += f.accepted;
+        sum.paired += f.paired;
         sum.panics += f.panics;
         sum.otherwise += f.otherwise;
         sum.not_judged += f.not_judged;
@@ -719,8 +765,8 @@ fn run() -> u64 {
     }
     for f in all.families.iter().chain([&sum]) {
         println!(
-            "| {} | {} | {} | {} | {} | {} | {} | {} |",
-            f.name, thousands(f.texts), thousands(f.accepted), thousands(f.panics), thousands(f.otherwise), thousands(f.not_judged), thousands(f.calls), thousands(f.differences)
+            "| {} | {} | {} | {} | {} | {} | {} | {} | {} |",
+            f.name, thousands(f.texts), thousands(f.accepted), thousands(f.paired), thousands(f.panics), thousands(f.otherwise), thousands(f.not_judged), thousands(f.calls), thousands(f.differences)
         );
     }
     println!("\n{:.0} s. Lists of calls with an accepted printing: {}, accepted printings in all: {}. Longest print: {} bytes.", sum.seconds, printed.0, printed.1, all.longest_print);
@@ -728,6 +774,8 @@ fn run() -> u64 {
     println!("Texts by refusal (0: accepted): {}.", met(&all.numbers));
     println!("Readings and printings by answer (0: accepted): {}.", met(&all.port.answers));
     println!("Records by kind: {}. Flags met: {}.", met(&all.kinds), all.flags);
+    let [without, with, lines, columns] = all.records.map(thousands);
+    println!("Records of accepted texts: {without} without CR LF, all of rico's numbers compared; {with} with it, lines and columns by the rule: {lines} have another line than rico's, in {} texts, {columns} another column.", thousands(all.moved));
 
     let found = std::mem::take(&mut all.found);
     for (kind, one) in &found {

@@ -1,5 +1,6 @@
 //! Both sides: document 01's answer for a text, from rico, and the port's calls with all that they are lent.
 
+use crate::lines;
 use crate::random::Rng;
 use oracle::flatten::Record;
 use oracle::judge::{judge, Answer};
@@ -24,6 +25,8 @@ pub enum Source {
     CutElsewhere,
     /// 23 could not be judged, or the space makes the text too long.
     NotJudged,
+    /// The rule for CR LF and rico's answer for the text without it do not agree.
+    LinesPart,
 }
 
 /// What document 01 says of a text, tables and output being large enough.
@@ -34,6 +37,8 @@ pub struct Wanted {
     pub comments: Vec<u32>,
     /// By indent; empty where not asked for.
     pub prints: Vec<Vec<u8>>,
+    /// How many records have another line than rico's own, and another column: only where the text has CR LF.
+    pub moved: (u64, u64),
 }
 
 const KEYWORDS: &[&str] = &[
@@ -79,6 +84,9 @@ pub fn wanted(text: &[u8], only: Option<usize>) -> Wanted {
     }
     spaced.extend_from_slice(&text[from..]);
     let mut wanted = judged(&spaced, only);
+    if wanted.source == Source::LinesPart {
+        return wanted;
+    }
     if wanted.source != Source::Rico && wanted.source != Source::Panics || spaced.len() > LONGEST {
         wanted.source = Source::NotJudged;
         return wanted;
@@ -99,13 +107,32 @@ pub fn wanted(text: &[u8], only: Option<usize>) -> Wanted {
     wanted
 }
 
+/// Rico's answer; where the text has CR LF, with lines and columns by Change 1, which must be rico's own for the text with spaces.
 fn judged(text: &[u8], only: Option<usize>) -> Wanted {
+    let mut wanted = by_rico(text, only);
+    if !lines::has_pair(text) {
+        return wanted;
+    }
+    if wanted.refusal.is_none() {
+        let (nodes, comments) = (lines::place(text, &mut wanted.nodes), lines::place(text, &mut wanted.comments));
+        wanted.moved = (nodes.0 + comments.0, nodes.1 + comments.1);
+    }
+    let other = by_rico(&lines::spaced(text), Some(INDENTS));
+    if (other.refusal, &other.nodes, &other.comments) != (wanted.refusal, &wanted.nodes, &wanted.comments) {
+        wanted.source = Source::LinesPart;
+    }
+    wanted
+}
+
+/// Rico's own answer.
+fn by_rico(text: &[u8], only: Option<usize>) -> Wanted {
     let refused = |source, (number, place, length): (u32, usize, usize)| Wanted {
         source,
         refusal: Some([number, place as u32, length as u32]),
         nodes: Vec::new(),
         comments: Vec::new(),
         prints: Vec::new(),
+        moved: (0, 0),
     };
     match judge(text) {
         Answer::Refused(refusal) => refused(Source::Rico, refusal),
@@ -125,6 +152,7 @@ fn judged(text: &[u8], only: Option<usize>) -> Wanted {
                     _ => Writer::new(indent).write(&document).into_bytes(),
                 })
                 .collect(),
+            moved: (0, 0),
         },
     }
 }

@@ -533,6 +533,26 @@ pub fn document(rng: &mut Rng, wrong: usize) -> Vec<u8> {
     render(&parts, rng, style)
 }
 
+/// The text with CR LF for each newline, or with line ends of any kind; sometimes with one more behind it.
+pub fn other_ends(rng: &mut Rng, text: &[u8]) -> Vec<u8> {
+    let ends: &[&[u8]] = match rng.below(4) {
+        0 | 1 => &[b"\r\n"],
+        2 => &[b"\r\n", b"\n"],
+        _ => &[b"\r\n", b"\n", b"\n\r", b"\r\r\n", b"\x0c\r\n", b"\r\n\r\n", b"\r", b"\x0c", b"\r\x0c\n"],
+    };
+    let mut out = Vec::new();
+    for byte in text {
+        match byte {
+            b'\n' => out.extend_from_slice(rng.pick(ends)),
+            _ => out.push(*byte),
+        }
+    }
+    if rng.percent(20) {
+        out.extend_from_slice(rng.pick::<[u8]>(&[b"\r", b"\r\n", b"\n\r", b"\r\r\n"]));
+    }
+    out
+}
+
 // ---- nesting
 
 pub fn deep_type(depth: usize, form: usize, rng: &mut Rng) -> Vec<u8> {

@@ -13,6 +13,7 @@ ghost use Prim.Native.Nat.{_+_, _≤_};
 ghost use lib.ListN.{length};
 ghost use Rattle.io.specs.Counts.{Counts};
 ghost use Rattle.replay.specs.List.{numberAt, ZeroFrom};
+ghost use Rattle.replay.specs.Pair.{pairAt, hasPair};
 
 // Longer than each text and each print of the list.
 pub const SPACE: usize = 66560;
@@ -26,6 +27,32 @@ pub const COMMENTS: usize = 1804;
 const FIELD: u8 = ast::kind::FIELD as u8;
 
 const ID: u8 = ast::kind::FIELD_ID as u8;
+
+// What was found in the texts so far: how many differ, and how many have CR LF.
+pub struct Tally {
+    pub differing: u32,
+    pub paired: u32,
+}
+
+impl Tally {
+    pub fn new() -> Tally {
+        Tally {
+            differing: 0,
+            paired: 0,
+        }
+    }
+
+    // With a text more, which is as the list has it or differs, and has CR LF or not.
+    pub fn with(mut self, same: bool, paired: bool) -> Tally {
+        if !same {
+            self.differing = ast::bump(self.differing);
+        }
+        if paired {
+            self.paired = ast::bump(self.paired);
+        }
+        self
+    }
+}
 
 fn wide(byte: u8) -> u32
     ensures { λ r. ⌜ (r ≡ byte) × (r ≤ 255) ⌝ }
@@ -118,6 +145,51 @@ pub fn zero_from(table: &[u32], start: usize) -> bool
     true
 }
 
+// Whether two tables are the same.
+pub fn same_numbers(a: &[u32], b: &[u32]) -> bool {
+    if a.len() != b.len() {
+        return false;
+    }
+    for k in 0..a.len() {
+        if a[k] != b[k] {
+            return false;
+        }
+    }
+    true
+}
+
+// Whether `\r` stands at an offset, and `\n` directly behind it.
+pub fn is_pair(text: &[u8], at: usize) -> bool
+    ensures { λ r. ⌜ r ≡ pairAt (now (text .entry)) at ⌝ }
+{
+    if text.len() <= at {
+        return false;
+    }
+    if text[at] != b'\r' {
+        return false;
+    }
+    let next = at + 1;
+    if text.len() <= next {
+        return false;
+    }
+    text[next] == b'\n'
+}
+
+// Whether `\r` stands directly before `\n` anywhere in a text, strings and comments too.
+// Rico counts such a pair between tokens for two lines, the port for one.
+pub fn has_pair(text: &[u8]) -> bool
+    ensures { λ r. ⌜ r ≡ hasPair (now (text .entry)) ⌝ }
+{
+    let mut at: usize = 0;
+    while at < text.len() {
+        if is_pair(text, at) {
+            return true;
+        }
+        at += 1;
+    }
+    false
+}
+
 // Writes that a text differs; the first is 0.
 pub fn write_differing(number: u32) {
     io::write_all(STDOUT_FILENO, b"text ");
@@ -128,4 +200,11 @@ pub fn write_differing(number: u32) {
 pub fn write_count(number: u32, what: &[u8]) {
     io::print_decimal(STDOUT_FILENO, number as u64);
     io::write_all(STDOUT_FILENO, what);
+}
+
+// Writes what was found in so many texts.
+pub fn write_tally(texts: u32, tally: Tally) {
+    write_count(texts, b" texts, ");
+    write_count(tally.differing, b" differ; ");
+    write_count(tally.paired, b" with CR LF\n");
 }

@@ -344,18 +344,6 @@ fn fill(space: &mut [u8], text: &[u8]) {
     }
 }
 
-fn same_numbers(a: &[u32], b: &[u32]) -> bool {
-    if a.len() != b.len() {
-        return false;
-    }
-    for k in 0..a.len() {
-        if a[k] != b[k] {
-            return false;
-        }
-    }
-    true
-}
-
 // The length of a text's file that is handed over: for some texts more than its space holds.
 fn length_of(number: u32, length: usize) -> usize {
     if number % 4 == 0 { SPACE * 2 } else { length }
@@ -450,10 +438,10 @@ fn same_lent(
     out: &[u8],
     other_out: &[u8],
 ) -> bool {
-    if !same_numbers(nodes, other_nodes) {
+    if !replay::same_numbers(nodes, other_nodes) {
         return false;
     }
-    if !same_numbers(comments, other_comments) {
+    if !replay::same_numbers(comments, other_comments) {
         return false;
     }
     check::same(out, other_out)

@@ -1,4 +1,5 @@
 // Cuts each text of the list on standard input, and compares every token with rico's.
+// Rico counts CR LF between tokens for two lines, the port for one (docs/DIFFERENCES.md): a line is rico's less the pairs between the tokens before it.
 //
 // The list holds little-endian numbers of 4 bytes. First the count of texts, then for each text:
 //     its length, and its bytes
@@ -11,6 +12,7 @@ use lexer::location::ParserToken;
 use lexer::location::Span;
 use libc::STDIN_FILENO;
 use libc::STDOUT_FILENO;
+use replay::Tally;
 ghost use mathlib.Core.Path.{_≡_};
 ghost use Prim.Native.Nat.{_+_, _≤_};
 ghost use lib.ListN.{length};
@@ -40,8 +42,8 @@ enum Read {
 
 // What the comparison of all texts finds.
 enum Outcome {
-    // how many texts differ
-    Compared(u32),
+    // how many texts differ, and how many have CR LF
+    Compared(Tally),
     // the list is cut short
     Short,
     // bytes are left behind the last text
@@ -82,21 +84,29 @@ fn text_at(list: &[u8], at: usize) -> Read
     })
 }
 
+// Whether a line is rico's less so many pairs of CR LF.
+fn same_line(line: u32, rico: u32, pairs: u32) -> bool {
+    if rico < line {
+        return false;
+    }
+    rico - line == pairs
+}
+
 // Whether index, line and column of a place stand at an offset.
-fn same_span(rows: &[u8], at: usize, span: Span) -> bool
+fn same_span(rows: &[u8], at: usize, span: Span, pairs: u32) -> bool
     requires { ⌜ at + 12 ≤ length (now rows) ⌝ }
 {
     if replay::number(rows, at) != span.index {
         return false;
     }
-    if replay::number(rows, at + 4) != span.line {
+    if !same_line(span.line, replay::number(rows, at + 4), pairs) {
         return false;
     }
     replay::number(rows, at + 8) == span.column
 }
 
 // Whether a token stands at an offset.
-fn same_token(rows: &[u8], at: usize, token: ParserToken) -> bool
+fn same_token(rows: &[u8], at: usize, token: ParserToken, pairs: u32) -> bool
     requires { ⌜ at + 28 ≤ length (now rows) ⌝ }
 {
     let kind = token.token;
@@ -104,10 +114,10 @@ fn same_token(rows: &[u8], at: usize, token: ParserToken) -> bool
     if replay::number(rows, at) != kind.code() {
         return false;
     }
-    if !same_span(rows, at + 4, loc.start) {
+    if !same_span(rows, at + 4, loc.start, pairs) {
         return false;
     }
-    same_span(rows, at + 16, loc.end)
+    same_span(rows, at + 16, loc.end, pairs)
 }
 
 // Whether what follows the last token is what the verdict says.
@@ -124,18 +134,33 @@ fn same_end(next: Next, verdict: u32, place: u32) -> bool {
     }
 }
 
+// So many pairs of CR LF, and those from an offset up to a token.
+fn add_pairs(text: &[u8], from: u32, token: ParserToken, pairs: u32) -> u32 {
+    let loc = token.loc;
+    let start = loc.start;
+    let mut count = pairs;
+    for at in from..start.index {
+        if replay::is_pair(text, at as usize) {
+            count = ast::bump(count);
+        }
+    }
+    count
+}
+
 // Whether the tokens of a text are those of the rows, and end as the verdict says.
 fn same_tokens(lut: &[u8; 768], text: &[u8], rows: &[u8], verdict: u32, place: u32) -> bool
     requires { ⌜ (now lut ≡ tables) × (length (now text) ≤ limit) ⌝ }
 {
     let mut from = Lexer::new();
+    let mut pairs: u32 = 0;
     let mut at: usize = 0;
     while ROW <= rows.len() - at {
         let next = lexer::next_token(lut, text, from);
         let Next::On(token, behind) = next else {
             return false;
         };
-        if !same_token(rows, at, token) {
+        pairs = add_pairs(text, from.at, token, pairs);
+        if !same_token(rows, at, token, pairs) {
             return false;
         }
         from = behind;
@@ -180,19 +205,26 @@ fn same_text(text: &[u8], rows: &[u8], verdict: u32, place: u32) -> bool {
     }
 }
 
-// The same of a text of the list.
-fn same_entry(list: &[u8], text: Text) -> bool
+// Compares a text.
+fn compare_text(text: &[u8], rows: &[u8], verdict: u32, place: u32, tally: Tally) -> Tally {
+    let same = same_text(text, rows, verdict, place);
+    tally.with(same, replay::has_pair(text))
+}
+
+// Compares a text of the list.
+fn compare_entry(list: &[u8], text: Text, tally: Tally) -> Tally
     requires { ⌜ Inside (length (now list)) text ⌝ }
 {
     let start = text.start;
     let end = text.end;
     let rows = text.rows;
     let next = text.next;
-    same_text(
+    compare_text(
         &list[start..end],
         &list[rows..next],
         text.verdict,
         text.place,
+        tally,
     )
 }
 
@@ -201,24 +233,23 @@ fn compare(list: &[u8], texts: u32) -> Outcome
     requires { ⌜ 4 ≤ length (now list) ⌝ }
 {
     let mut at: usize = 4;
-    let mut differing: u32 = 0;
-    let mut i: u32 = 0;
-    while i < texts {
+    let mut tally = Tally::new();
+    for i in 0..texts {
         let read = text_at(list, at);
         let Read::Text(text) = read else {
             return Outcome::Short;
         };
-        if !same_entry(list, text) {
+        let now = compare_entry(list, text, tally);
+        if now.differing != tally.differing {
             replay::write_differing(i);
-            differing += 1;
         }
+        tally = now;
         at = text.next;
-        i += 1;
     }
     if at < list.len() {
         return Outcome::Long;
     }
-    Outcome::Compared(differing)
+    Outcome::Compared(tally)
 }
 
 // Compares all texts of the list and says what differs.
@@ -230,9 +261,8 @@ fn compare_list(list: &[u8]) {
     let texts = replay::number(list, 0);
     let outcome = compare(list, texts);
     match outcome {
-        Outcome::Compared(differing) => {
-            replay::write_count(texts, b" texts, ");
-            replay::write_count(differing, b" differ\n");
+        Outcome::Compared(tally) => {
+            replay::write_tally(texts, tally);
         }
         Outcome::Short => {
             io::write_all(STDOUT_FILENO, b"the list ends early\n");

@@ -7,10 +7,10 @@ use Rattle.replay_nodes.proofs.compare.Statement.{statement}
 use Rattle.replay_nodes.proofs.compare.Tie as tie
 
 abbrev Inv-loop : tie.InvT-loop
-Inv-loop texts space₀ differing₀ i₀ space differing i = 66560 ≡ length space
+Inv-loop texts space₀ tally₀ i₀ space tally i = 66560 ≡ length space
 
 abbrev μ-loop : tie.MeasureT-loop
-μ-loop texts space₀ differing₀ i₀ space differing i = texts - i
+μ-loop texts space₀ tally₀ i₀ space tally i = texts - i
 
 pub compare-spec : {M : Type 1} → statement M
 compare-spec =
@@ -18,9 +18,9 @@ compare-spec =
     (tie.spec
     Inv-loop
     μ-loop
-    (λ c. search needs)
-    (λ c. search needs)
     (λ c κs. search needs)
+    (λ c. search needs)
+    (λ c. search needs)
     (λ c κs. search needs)
     (λ c κs. search needs)
     (λ c. search needs)

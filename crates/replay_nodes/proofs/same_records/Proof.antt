@@ -5,10 +5,10 @@ use Rattle.replay_nodes.proofs.same_records.Statement.{statement}
 use Rattle.replay_nodes.proofs.same_records.Tie as tie
 
 abbrev Inv-loop : tie.InvT-loop
-Inv-loop table count end same₀ i₀ same i = Unit
+Inv-loop table count paired end same₀ i₀ same i = Unit
 
 abbrev μ-loop : tie.MeasureT-loop
-μ-loop table count end same₀ i₀ same i = end - i
+μ-loop table count paired end same₀ i₀ same i = end - i
 
 pub same-records-spec : {M : Type 1} → statement M
 same-records-spec =
@@ -19,8 +19,7 @@ same-records-spec =
     (λ c. search needs)
     (λ c. search needs)
     (λ c κs. search needs)
-    (λ c. search needs)
-    (λ c. search needs)
+    (λ c κs. search needs)
     (λ c. search needs)
     (λ c. search needs)
     (λ c. search needs)

@@ -13,10 +13,10 @@ use Rattle.replay_tokens.proofs.same_tokens.Statement.{statement}
 use Rattle.replay_tokens.proofs.same_tokens.Tie as tie
 
 abbrev Inv-loop : tie.InvT-loop
-Inv-loop lut text rows verdict place from₀ at₀ from at = Placed from × (at ≤ length rows)
+Inv-loop lut text rows verdict place from₀ pairs₀ at₀ from pairs at = Placed from × (at ≤ length rows)
 
 abbrev μ-loop : tie.MeasureT-loop
-μ-loop lut text rows verdict place from₀ at₀ from at = length rows - at
+μ-loop lut text rows verdict place from₀ pairs₀ at₀ from pairs at = length rows - at
 
 loop-holds : tie.Need-loop-holds Inv-loop μ-loop
 loop-holds c = (rw (c .new .ensures) opening-placed, omega arith)
@@ -25,7 +25,7 @@ next-token-requires : tie.Need-next-token-requires Inv-loop μ-loop
 next-token-requires c κs = let a = c .before .before .before .before .before .pre in (a .0, a .1, c .before .loop .inv .0)
 
 add-at : tie.Need-add-at Inv-loop μ-loop
-add-at c = omega (arith, c .before .before .before .before .before .before .before .before .before .before .before .good .1 .1 .0)
+add-at c = omega (arith, c .before .before .before .before .before .before .before .before .before .before .before .before .good .1 .1 .0)
 
 -- the token that was found
 on : (c : tie.After-next Inv-loop μ-loop)
@@ -34,7 +34,7 @@ on c = sym (c .before .before .next-token .ensures) ∙ c .next .given .1
 
 loop-again : tie.Need-loop-again Inv-loop μ-loop
 loop-again c =
-    let d = c .before .before .before in
+    let d = c .before .before .before .before in
     let l = d .before .before .before .before in
     (next-placed _ _ _ _ (l .loop .inv .0) (l .before .before .before .before .pre .1) (on d), omega arith)
 
@@ -53,6 +53,7 @@ same-tokens-spec =
     next-token-requires
     (λ c. search needs)
     (λ c. search needs)
+    (λ c κs. search needs)
     (λ c κs. search needs)
     (λ c. search needs)
     add-at

@@ -1,9 +1,9 @@
--- `replay_calls::same_numbers` meets its contract.
+-- `replay::same_numbers` meets its contract.
 use Prim.Native.Nat.{_-_}
 use lib.ListN.{length}
 use borrow.Author.Needs.{needs}
-use Rattle.replay_calls.proofs.same_numbers.Statement.{statement}
-use Rattle.replay_calls.proofs.same_numbers.Tie as tie
+use Rattle.replay.proofs.same_numbers.Statement.{statement}
+use Rattle.replay.proofs.same_numbers.Tie as tie
 
 abbrev Inv-loop : tie.InvT-loop
 Inv-loop a b k₀ k-end k = Unit
