@@ -13,7 +13,8 @@ ghost use Prim.Native.Nat.{_+_, _≤_};
 ghost use lib.ListN.{length};
 ghost use Rattle.io.specs.Counts.{Counts};
 ghost use Rattle.replay.specs.List.{numberAt, ZeroFrom};
-ghost use Rattle.replay.specs.Pair.{pairAt, hasPair};
+ghost use Rattle.lexer.specs.Location.{hasPair};
+ghost use Rattle.replay.specs.Pair.{pairAt};
 
 // Longer than each text and each print of the list.
 pub const SPACE: usize = 66560;

@@ -4,7 +4,7 @@ use Prim.Native.Nat.{_-_}
 use native.Mathlib.Omega.{arith}
 use borrow.Author.Needs.{needs}
 use lib.ListN.{length, drop, drop-of-length-le}
-use Rattle.replay.specs.Pair.{hasPair}
+use Rattle.lexer.specs.Location.{hasPair}
 use Rattle.replay.proofs.Pairs.{pair-here, pair-on}
 use Rattle.replay.proofs.has_pair.Statement.{statement}
 use Rattle.replay.proofs.has_pair.Tie as tie

@@ -1,9 +1,6 @@
 -- `replay::is_pair` meets its contract.
-use native.Mathlib.Omega.{arith}
 use borrow.Author.Needs.{needs}
-use borrow.Author.Tests.{eq-eqb, ne-eqb}
-use Rattle.replay.specs.Pair.{pairAt}
-use Rattle.replay.proofs.Pairs.{pair-past, pair-cut}
+use Rattle.replay.proofs.Pairs.{pair-past, pair-other, pair-cut, pair-next}
 use Rattle.replay.proofs.is_pair.Statement.{statement}
 use Rattle.replay.proofs.is_pair.Tie as tie
 
@@ -11,15 +8,13 @@ returns : tie.Need-returns
 returns c = pair-past _ _ (c .if1 .taken)
 
 returns-2 : tie.Need-returns-2
-unfolding pairAt
-returns-2 c = rw (ne-eqb _ _ (c .if2 .taken))
+returns-2 c = let a = c .before .before .before .args in pair-other (a .text .now) (a .at) (c .if2 .taken)
 
 returns-3 : tie.Need-returns-3
 returns-3 c = pair-cut _ _ (c .before .if2 .left) (c .if3 .taken)
 
 returns-4 : tie.Need-returns-4
-unfolding pairAt
-returns-4 c = rw (eq-eqb _ _ (c .before .before .if2 .left))
+returns-4 c = pair-next _ _ (c .before .before .if2 .left)
 
 pub is-pair-spec : {M : Type 1} → statement M
 is-pair-spec =
