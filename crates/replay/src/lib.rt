@@ -8,11 +8,12 @@
 use libc::STDIN_FILENO;
 use libc::STDOUT_FILENO;
 ghost use mathlib.Core.Path.{_≡_};
-ghost use mathlib.Core.Bool.{true};
+ghost use mathlib.Core.Bool.{true, cond, not};
 ghost use Prim.Native.Nat.{_+_, _≤_};
 ghost use lib.ListN.{length};
 ghost use Rattle.io.specs.Counts.{Counts};
 ghost use Rattle.replay.specs.List.{numberAt, ZeroFrom};
+ghost use Rattle.ast.specs.Largest.{bump};
 ghost use Rattle.lexer.specs.Location.{hasPair};
 ghost use Rattle.replay.specs.Pair.{pairAt};
 
@@ -29,6 +30,13 @@ const FIELD: u8 = ast::kind::FIELD as u8;
 
 const ID: u8 = ast::kind::FIELD_ID as u8;
 
+// A count, and one more of it if so.
+fn one_more_if(so: bool, n: u32) -> u32
+    ensures { λ r. ⌜ r ≡ cond so (bump n) n ⌝ }
+{
+    if so { ast::bump(n) } else { n }
+}
+
 // What was found in the texts so far: how many differ, and how many have CR LF.
 pub struct Tally {
     pub differing: u32,
@@ -36,7 +44,9 @@ pub struct Tally {
 }
 
 impl Tally {
-    pub fn new() -> Tally {
+    pub fn new() -> Tally
+        ensures { λ r. ⌜ (r .differing ≡ 0) × (r .paired ≡ 0) ⌝ }
+    {
         Tally {
             differing: 0,
             paired: 0,
@@ -44,14 +54,12 @@ impl Tally {
     }
 
     // With a text more, which is as the list has it or differs, and has CR LF or not.
-    pub fn with(mut self, same: bool, paired: bool) -> Tally {
-        if !same {
-            self.differing = ast::bump(self.differing);
-        }
-        if paired {
-            self.paired = ast::bump(self.paired);
-        }
-        self
+    pub fn with(self, same: bool, paired: bool) -> Tally
+        ensures { λ r. ⌜ (r .differing ≡ cond (not same) (bump (self .differing)) (self .differing)) × (r .paired ≡ cond paired (bump (self .paired)) (self .paired)) ⌝ }
+    {
+        let differing = one_more_if(!same, self.differing);
+        let paired = one_more_if(paired, self.paired);
+        Tally { differing, paired }
     }
 }
 
@@ -147,14 +155,18 @@ pub fn zero_from(table: &[u32], start: usize) -> bool
 }
 
 // Whether two tables are the same.
-pub fn same_numbers(a: &[u32], b: &[u32]) -> bool {
+pub fn same_numbers(a: &[u32], b: &[u32]) -> bool
+    ensures { λ r. ⌜ (r ≡ true → now (a .entry) ≡ now (b .entry)) × (now (a .entry) ≡ now (b .entry) → r ≡ true) ⌝ }
+{
     if a.len() != b.len() {
         return false;
     }
-    for k in 0..a.len() {
+    let mut k: usize = 0;
+    while k < a.len() {
         if a[k] != b[k] {
             return false;
         }
+        k += 1;
     }
     true
 }
