@@ -97,7 +97,7 @@ edges =
     ∷ lastAt "\r\r\nenum E{}" 3 6
     ∷ lastAt "\u{c}\r\nenum E{}" 3 6
     ∷ lastAt "\r\n\r\nenum E{}" 3 6
-    -- a `\r` that no `\n` follows ends a line, also at the end of the text
+    -- a `\r` that no `\n` follows ends a line; at the end of the text no record lies behind it (`place/proofs/Cases` has its place)
     ∷ lastAt "\renum E{}" 2 6
     ∷ lastAt "enum E{}\r" 1 6
     -- a line comment ends before `\n`; a string has no lines
