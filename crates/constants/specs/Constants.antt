@@ -1,12 +1,9 @@
 -- Apache's IDL [32] IntConstant and [33] DoubleConstant over bytes, as the page has them; and each departure of rico's token patterns from them.
 --
 use Prim.Native.Nat.{ℕ, _≤_}
-use mathlib.Core.Bool.{cond}
 use mathlib.Core.List.{List, [], _∷_, _++_}
-use Rattle.token.specs.Code.{is}
 use Rattle.token.specs.Regex.{Regex}
 use Rattle.token.specs.Patterns.{patternOf, rules}
-use Rattle.token.specs.declared.Token.{Token}
 use Rattle.token.specs.declared.Token.the-variants as T
 
 -- ---- the productions

@@ -3,13 +3,13 @@
 --     next-line     a line end is passed
 --     next-mark     a token of one byte, or none
 --     token-no-line   no line end, by another class
-use mathlib.Core.Path.{_≡_, refl, sym, ap, _∙_}
-use mathlib.Core.Bool.{Bool, true, false, cond, not, _&&_, _||_, and-eq-true-iff, false≢true}
-use mathlib.Core.List.{List, [], _∷_}
+use mathlib.Core.Path.{_≡_, refl, sym, _∙_}
+use mathlib.Core.Bool.{Bool, true, false, cond, not, _||_, false≢true}
+use mathlib.Core.List.{List, _∷_}
 use Prim.Native.Nat.{ℕ, suc, _+_, _<_, _≤_}
 use native.Mathlib.Omega.{arith}
 use native.Mathlib.Numerals.{add-one}
-use borrow.Author.Tests.{le-ltb, ltb-true}
+use borrow.Author.Tests.{le-ltb}
 use lib.Dec.{T, eqb, ltb, eqb→eq}
 use lib.ListN.{length, take, drop, getD}
 use lib.Seq.{drop-cons, getD-drop}
@@ -24,14 +24,12 @@ use Rattle.token.specs.declared.Token.the-variants as T
 use Rattle.token.specs.declared.Scan.{Scan}
 use Rattle.token.specs.declared.Scan.the-variants.{Miss, Hit}
 use Rattle.token.proofs.Every.{every, at, both, both-left, both-right}
-use Rattle.token.proofs.Truth.{T-true}
 use Rattle.token.proofs.Classes.{classes-length, class-below}
 use Rattle.token.proofs.Pattern.{newline-class}
 use Rattle.scan.proofs.FirstByte.{mark-at, line-at}
 use Rattle.lexer.specs.declared.location.Lexer.{Lexer}
-use Rattle.lexer.specs.declared.location.Next.{Next}
 use Rattle.lexer.specs.declared.location.Next.the-variants as N
-use Rattle.lexer.specs.Location.{behind, endsLine, pass, between}
+use Rattle.lexer.specs.Location.{behind, endsLine, pass}
 use Rattle.lexer.specs.Tokens.{skipped, next}
 use Rattle.lexer.specs.Marked.{marked}
 use Rattle.lexer.proofs.CutLaws.{next-miss, next-hit}

@@ -16,7 +16,7 @@ use Rattle.lexer.specs.declared.location.LOC.{LOC}
 unfoldable pub pair : ℕ → List ℕ → Bool
 pair b r = eqb b 13 && eqb (getD r 0 0) 10
 
--- such a pair stands in a text (no rule asks for this: it tells the texts whose lines are not rico's)
+-- such a pair stands in a text (no rule asks for this: without it every line is rico's)
 unfoldable pub hasPair : List ℕ → Bool
 hasPair [] = false
 hasPair (b ∷ t) = pair b t || hasPair t

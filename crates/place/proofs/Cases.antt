@@ -3,7 +3,6 @@ use mathlib.Core.Path.{_≡_, refl}
 use mathlib.Core.List.{List, [], _∷_}
 use Prim.Native.Nat.{ℕ}
 use Prim.Native.String.{String}
-use lib.ListN.{length}
 use Rattle.token.specs.Code.{code, is}
 use Rattle.token.specs.Regex.{bytes, ranges, within, nullable, isNothing, then, or, deriv}
 use Rattle.token.specs.Patterns.{
@@ -29,7 +28,6 @@ use Rattle.token.specs.Patterns.{
 }
 use Rattle.token.specs.Scan.{derivs, first, keep, scanFrom, scan}
 use Rattle.lexer.specs.Location.{pair, endsLine, behind, spanOf, opening}
-use Rattle.lexer.specs.Limit.{limit}
 use Rattle.place.specs.Place.{kindOf, lengthOf, walk, least, placeOf}
 
 -- a text, an offset, its line and its column

@@ -30,7 +30,6 @@ use Rattle.lexer.specs.Cuts.{cutAt, cutsFrom, cuts, unrecognized}
 use Rattle.lexer.specs.Location.{behind, spanOf, between, opening}
 use Rattle.lexer.specs.Tokens.{skipped}
 use Rattle.lexer.specs.Check.{verdict, checked}
-use Rattle.lexer.specs.Limit.{limit}
 use Rattle.ast.specs.Tree as A
 use Rattle.ast.specs.Records as R
 use Rattle.parser.specs.Steps as S

@@ -8,7 +8,7 @@ use mathlib.Core.Bool.{Bool, true, false, cond, _||_, and-true, false≢true}
 use mathlib.Core.List.{List, [], _∷_, _++_}
 use Prim.Native.Nat.{ℕ, zero, suc, _+_, _≤_}
 use native.Mathlib.Omega.{arith}
-use lib.ListN.{length, take, drop, length-drop, take-append-drop}
+use lib.ListN.{length, drop, length-drop, take-append-drop}
 use Rattle.token.specs.Code.{is}
 use Rattle.token.specs.Scan.{scan}
 use Rattle.token.specs.declared.Token.{Token}
@@ -21,7 +21,7 @@ use Rattle.lexer.specs.Cuts.{Cuts, end, stuck, cut, cuts}
 use Rattle.lexer.specs.Location as L
 use Rattle.lexer.specs.Location.{pair, hasPair, behind, between, spanOf, opening}
 use Rattle.lexer.specs.Tokens as K
-use Rattle.lexer.specs.Tokens.{Lexeme, lexeme, skipped}
+use Rattle.lexer.specs.Tokens.{lexeme, skipped}
 use Rattle.lexer.specs.Check.{checked}
 use Rattle.lexer.proofs.PlaceLaws.{behind-at}
 use Rattle.lexer.proofs.CutLaws as CutLaws

@@ -1,7 +1,6 @@
 -- `replay::has_pair` meets its contract. The invariant: what stands from here on decides.
 use mathlib.Core.Path.{_≡_, refl, sym, ap, _∙_}
 use Prim.Native.Nat.{_-_}
-use native.Mathlib.Omega.{arith}
 use borrow.Author.Needs.{needs}
 use lib.ListN.{length, drop, drop-of-length-le}
 use Rattle.lexer.specs.Location.{hasPair}

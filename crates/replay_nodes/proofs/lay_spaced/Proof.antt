@@ -1,5 +1,5 @@
 -- `replay_nodes::lay_spaced` meets its contract. The invariant: the length of `space` stays.
-use mathlib.Core.Path.{_≡_, _∙_}
+use mathlib.Core.Path.{_≡_}
 use native.Mathlib.Omega.{arith}
 use Prim.Native.Nat.{_-_}
 use lib.ListN.{length, length-set}
