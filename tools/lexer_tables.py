@@ -30,7 +30,8 @@ for _, word in words:
         if word[: i + 1] not in children:
             children[word[: i + 1]] = []
             children[word[:i]].append(word[i])
-number, base, check, spelling = {"": 1}, [0] * 256, [0] * 256, {1: ""}
+FREE = 255  # the owner of a place that is no node's
+number, base, check, spelling = {"": 1}, [0] * 256, [FREE] * 256, {1: ""}
 free = [k > 1 for k in range(256)]
 queue = [""]
 while queue:
@@ -57,7 +58,7 @@ def cons(xs, width=32):
 open("crates/lexer/src/table.rt", "w").write(f"""// The lexer's constant table, made by tools/lexer_tables.py. It is held to the patterns by computed tests.
 
 // The class of each byte: 0 to 7 digits, 8 to 35 letters and `_`, then the dot and the other signs.
-// From 256 on the keywords as a double-array trie. A node n and a class k lead to the node LUT[256 + n] + k if LUT[512 + that] is n, else nowhere.
+// From 256 on the keywords as a double-array trie. A number n and a class k lead to the number LUT[256 + n] + k if LUT[512 + that] is n, else to 0.
 pub const LUT: [u8; 768] = [
 {array(classes + trie, lambda i: f' // {i:02x}' if i < 256 else '')}];
 """)
@@ -76,7 +77,7 @@ unfoldable pub reps : List ℕ
 reps =
     {cons(reps, 30)}
 
--- the trie of the words: the base of each node, then the node that each place belongs to
+-- the trie of the words: the base of each node, then the node that each place belongs to, 255 where it is none's
 unfoldable pub trie : List ℕ
 trie =
     {cons(trie)}

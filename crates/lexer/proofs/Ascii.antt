@@ -25,7 +25,7 @@ use Rattle.token.proofs.Every.{every, at}
 use Rattle.token.proofs.Classes.{classes-length}
 use Rattle.token.proofs.Reach.{reach-start, reach-stop}
 use Rattle.token.proofs.Words.{scan-plain}
-use Rattle.token.proofs.Trie.{no-word-first}
+use Rattle.token.proofs.WordNumber.{no-word-first}
 use Rattle.lexer.specs.declared.location.Lexer.{Lexer}
 use Rattle.lexer.specs.Outcome.{accepted}
 use Rattle.utf8.specs.Utf8.{illFormed, WellFormed}
@@ -33,7 +33,6 @@ use Rattle.lexer.specs.Cuts.{Cuts, end, stuck, cut, cuts, unrecognized}
 use Rattle.lexer.specs.Location.{pass, between, opening}
 use Rattle.lexer.specs.Tokens.{Lexeme, lexeme, skipped, lexemes, tokens}
 use Rattle.lexer.specs.Check.{verdict, checked}
-use Rattle.lexer.specs.Limit.{limit}
 use Rattle.utf8.proofs.Utf8Laws.{Starts, well-left, well-right}
 use Rattle.lexer.proofs.CutLaws.{hit-fits, cuts-nil, cuts-miss, cuts-hit}
 use Rattle.lexer.proofs.CheckLaws.{fine-fits}
@@ -63,7 +62,7 @@ high-miss : (t : List ℕ) → Bytes t → 0 < length t → 128 ≤ getD t 0 0 �
 unfolding step openings
 high-miss t b h l =
     let k : classOf (getD t 0 0) ≡ 58 = high-class (getD t 0 0) (bytes-at t b 0) l in
-    scan-plain t Miss (no-word-first t h (bytes-at t b 0) .1 (omega arith)) (reach-stop (reach-start t (bytes-at t b)) 58 h k refl)
+    scan-plain t Miss (no-word-first t .1 (omega arith)) (reach-stop (reach-start t (bytes-at t b)) 58 h k refl)
 
 pub hit-ascii : (t : List ℕ) (k : Token) (n : ℕ) → Bytes t → scan t ≡ Hit k n → getD t 0 0 < 128
 hit-ascii t k n b e =

@@ -1,58 +1,56 @@
 -- What the last arm of a `match` on a number stands for: one computed test of all numbers that no arm names.
-use mathlib.Core.Path.{_≡_, refl}
+use mathlib.Core.Path.{_≡_, refl, sym, ap, _∙_}
 use mathlib.Core.Bool.{Bool, true, false, cond, _||_}
 use mathlib.Core.List.{List, [], _∷_}
+use mathlib.Core.Option.{some, none}
 use Prim.Native.Nat.{ℕ, _+_, _<_}
 use native.Mathlib.Omega.{arith}
-use Prim.Native.String.{String}
+use borrow.Author.Tests.{ne-eqb, eqb-false}
 use lib.Dec.{T, eqb, ltb, ltb→lt}
 use lib.ListN.{length, getD, take}
 use lib.Seq.{getD-take}
 use Rattle.token.specs.Regex.{bytes}
 use Rattle.token.specs.Patterns.{Word, word, token, words}
-use Rattle.token.specs.Tables.{classes, trie, tables, spellings}
+use Rattle.token.specs.Tables.{classes, trie, tables}
 use Rattle.token.specs.Automaton.{openings, whole-byte, opened}
-use Rattle.token.specs.Words.{same, lookup, strip, stripAll, spelling, wordsAt, child, kindOf}
+use Rattle.token.specs.Run.{classOf}
+use Rattle.token.specs.WordNumber.{step, stepBy, numberFrom, number, keywordIn, keyword, kindIn, kindOf}
 use Rattle.token.specs.declared.Token.{Token}
 use Rattle.token.specs.declared.Token.the-variants as T
 use Rattle.token.specs.declared.Scan.{Scan}
 use Rattle.token.specs.declared.Scan.the-variants.{Miss, Hit}
+use Rattle.token.proofs.Numbers.{elem}
 use Rattle.token.proofs.Every.{every, at}
 use Rattle.token.proofs.Classes.{classes-length}
-use Rattle.token.proofs.Trie.{spellings-length}
 use Rattle.token.proofs.Tables.{trie-entry}
-
-abbrev pub elem : ℕ → List ℕ → Bool
-elem n [] = false
-elem n (k ∷ ks) = eqb n k || elem n ks
 
 -- ---- words::kind_of
 
--- no word ends here
-unended : List Word → Bool
-unended [] = true
-unended (word k [] ∷ ws) = false
-unended (word k (a ∷ u) ∷ ws) = unended ws
-
-unended-lookup : (ws : List Word) (k : Token) → T (unended ws) → lookup ws [] k ≡ k
-unfolding unended lookup same
-unended-lookup [] k t = refl
-unended-lookup (word q [] ∷ ws) k t = absurd t
-unended-lookup (word q (a ∷ u) ∷ ws) k t = unended-lookup ws k t
+numbers : List Word → List ℕ
+numbers [] = []
+numbers (word k u ∷ ws) = number u ∷ numbers ws
 
 abbrev pub ends : List ℕ
 ends = 146 ∷ 150 ∷ 134 ∷ 135 ∷ 101 ∷ 82 ∷ 124 ∷ 110 ∷ 148 ∷ 138 ∷ 137 ∷ 121 ∷ 144 ∷ 145 ∷ 91 ∷ 92 ∷ 93 ∷ 37 ∷ 5 ∷ 2 ∷ 4 ∷ 131 ∷ 125 ∷ 130 ∷ 71 ∷ 97 ∷ 63 ∷ 81 ∷ 116 ∷ 129 ∷ []
 
-inner : ℕ → String → Bool
-inner n s = cond (elem n ends) true (unended (wordsAt n))
+ends-are : numbers words ≡ ends
+unfolding numbers words token bytes number numberFrom step stepBy classOf classes trie
+ends-are = refl
 
-inner-test : T (every inner 0 spellings)
-unfolding inner unended wordsAt spelling stripAll strip words token bytes spellings
-inner-test = tt
+-- a number that is no keyword's
+other : (ws : List Word) (n : ℕ) → elem n (numbers ws) ≡ false → keywordIn ws n ≡ none
+unfolding keywordIn numbers
+other [] n e = refl
+other (word k u ∷ ws) n e = go (eqb n (number u)) refl e (other ws n)
+  where
+    go : (b : Bool) → eqb n (number u) ≡ b → (b || elem n (numbers ws)) ≡ false → (elem n (numbers ws) ≡ false → keywordIn ws n ≡ none)
+        → cond (eqb (number u) n) (some (word k u)) (keywordIn ws n) ≡ none
+    go true f x y = cc x
+    go false f x y = rw (ne-eqb (number u) n (λ z. eqb-false n (number u) f (sym z))) (y x)
 
-pub kind-inner : (n : ℕ) → n < 151 → elem n ends ≡ false → kindOf n ≡ T.Identifier
-unfolding inner kindOf
-kind-inner n h e = unended-lookup (wordsAt n) T.Identifier (rw e at (at inner spellings "-" inner-test n (rw spellings-length h)))
+pub kind-other : (n : ℕ) → elem n ends ≡ false → kindOf n ≡ T.Identifier
+unfolding kindOf keyword kindIn
+kind-other n e = ap kindIn (other words n (ap (elem n) ends-are ∙ e))
 
 -- ---- scan::mark_of
 
@@ -79,7 +77,7 @@ pub mark-other : (k : ℕ) → k < 256 → elem k marked ≡ false → opened k 
 unfolding unmarked
 mark-other k h e = missed-eq (opened k) (rw e at (at unmarked classes 0 unmarked-test k (rw classes-length h)))
 
--- ---- words::child
+-- ---- words::step
 
 small : ℕ → ℕ → Bool
 small n x = ltb x 220
@@ -103,6 +101,6 @@ lent-small n h = rw (trie-entry n) (base-small n h)
 owner : (t : ℕ) → getD tables (512 + t) 0 ≡ getD trie (256 + t) 0
 owner t = let e : 512 + t ≡ 256 + (256 + t) = omega arith in rw e (trie-entry (256 + t))
 
-pub lent-child : (n k : ℕ) → child n k ≡ (let t = getD tables (256 + n) 0 + k in cond (eqb (getD tables (512 + t) 0) n) t 0)
-unfolding child
-lent-child n k = rw (trie-entry n, owner (getD trie n 0 + k))
+pub lent-step : (n k : ℕ) → stepBy n k ≡ (let t = getD tables (256 + n) 0 + k in cond (eqb (getD tables (512 + t) 0) n) t 0)
+unfolding stepBy
+lent-step n k = rw (trie-entry n, owner (getD trie n 0 + k))

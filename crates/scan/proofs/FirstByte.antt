@@ -13,7 +13,7 @@ use mathlib.Core.Logic.{_⊎_, inl, inr, ⊎-elim}
 use borrow.Author.Tests.{ne-eqb, eqb-true}
 use lib.Dec.{eqb}
 use Rattle.token.proofs.Numbers.{eq-or-ne}
-use Rattle.scan.proofs.Arms.{elem}
+use Rattle.token.proofs.Numbers.{elem}
 use lib.ListN.{length, drop, getD, length-drop}
 use lib.Seq.{getD-drop, drop-drop}
 use Rattle.token.specs.Scan.{scan}
@@ -24,7 +24,7 @@ use Rattle.token.specs.declared.Scan.the-variants.{Miss, Hit}
 use Rattle.token.proofs.Reach.{reach-start}
 use Rattle.token.proofs.Classes.{class-below}
 use Rattle.token.proofs.Words.{scan-plain}
-use Rattle.token.proofs.Trie.{no-word-first}
+use Rattle.token.proofs.WordNumber.{no-word-first}
 use Rattle.scan.proofs.ScanLaws.{first-letter, first-blank}
 use Rattle.scan.proofs.MarkLaws.{starters, mark-done}
 
@@ -42,7 +42,7 @@ module _ (t : List ℕ) (at : ℕ) (bytes : (j : ℕ) → getD t j 0 < 256) (h :
   letter-at l u = first-letter (reach-start (drop at t) behind) inside (rw first l) (rw first u)
 
   sign-at : 36 ≤ classOf (getD t at 0) → longest (drop at t) ≡ scan (drop at t)
-  sign-at l = sym (scan-plain (drop at t) _ (no-word-first (drop at t) inside (behind 0) .1 (rw first l)) refl)
+  sign-at l = sym (scan-plain (drop at t) _ (no-word-first (drop at t) .1 (rw first l)) refl)
 
   pub mark-at : (k : ℕ) → k ≡ classOf (getD t at 0) → 46 ≤ k → (k ≡ 59 → ⊥) → scan (drop at t) ≡ opened k
   mark-at k e l n =

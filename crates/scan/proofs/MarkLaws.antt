@@ -46,7 +46,7 @@ use Rattle.token.specs.declared.Scan.the-variants.{Miss}
 use Rattle.token.proofs.Every.{every, at}
 use Rattle.token.proofs.Reach.{dead-scan}
 use Rattle.token.proofs.Classes.{classes-length}
-use Rattle.scan.proofs.Arms.{elem}
+use Rattle.token.proofs.Numbers.{elem}
 use Rattle.scan.proofs.ScanLaws.{closed-done, first-other}
 
 -- a state that no byte goes on from

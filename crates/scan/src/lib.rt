@@ -12,7 +12,7 @@ ghost use Rattle.token.specs.Tables.{tables};
 ghost use Rattle.token.specs.Scan.{scan};
 ghost use Rattle.token.specs.Run.{classOf, before};
 ghost use Rattle.token.specs.Automaton.{State, Reached, longest, opened, quote, stop};
-ghost use Rattle.token.specs.Words.{NoWord, Spelled};
+ghost use Rattle.token.specs.WordNumber.{start, noKeyword, numbers, wordFrom};
 ghost use Rattle.token.specs.declared.Token.the-variants as T;
 ghost use Rattle.token.specs.declared.Scan.the-variants.{Miss, Hit};
 ghost use Rattle.scan.specs.Until.{until};
@@ -357,12 +357,13 @@ fn name_end(lut: &[u8; 768], text: &[u8], at: usize) -> usize
     i
 }
 
-// The identifier that goes on at `at` and is no keyword.
+// The word that goes on at `at`, where no keyword begins with its bytes so far: none does with more.
 fn name_of(lut: &[u8; 768], text: &[u8], at: usize) -> Scan
-    requires { ⌜ (now lut ≡ tables) × Reached (now text) State.named at (Hit T.Identifier at) × NoWord (now text) at ⌝ }
-    ensures { λ r. ⌜ r ≡ scan (now (text .entry)) ⌝ }
+    requires { ⌜ (now lut ≡ tables) × Reached (now text) State.named at (Hit T.Identifier at) ⌝ }
+    ensures { λ r. ⌜ r ≡ wordFrom noKeyword at (now (text .entry)) (longest (now (text .entry))) ⌝ }
 {
-    Scan::Hit(Token::Identifier, name_end(lut, text, at))
+    let end = name_end(lut, text, at);
+    Scan::Hit(words::kind_of(words::NO_KEYWORD), end)
 }
 
 // How long the word at an offset is, a keyword or not; a letter stands there.
@@ -373,46 +374,55 @@ pub fn word_extent(lut: &[u8; 768], text: &[u8], at: usize) -> usize
     name_end(lut, &text[at..], 1)
 }
 
-// The word whose first piece ends at `i` in the node `node` of the trie: an identifier if a dot and a letter follow.
-fn word_end(lut: &[u8; 768], text: &[u8], i: usize, node: u8) -> Scan
-    requires { ⌜ (now lut ≡ tables) × (i < length (now text)) × (36 ≤ classOf (getD (now text) i 0)) × Reached (now text) State.named i (Hit T.Identifier i) × Spelled (now text) i node ⌝ }
-    ensures { λ r. ⌜ r ≡ scan (now (text .entry)) ⌝ }
+// The word whose first piece ends at `i`, with this number: with a dot and a letter behind it it goes on.
+fn word_end(lut: &[u8; 768], text: &[u8], i: usize, number: u8) -> Scan
+    requires { ⌜ (now lut ≡ tables) × (i < length (now text)) × (36 ≤ classOf (getD (now text) i 0)) × Reached (now text) State.named i (Hit T.Identifier i) × (number < numbers) ⌝ }
+    ensures { λ r. ⌜ r ≡ wordFrom number i (now (text .entry)) (longest (now (text .entry))) ⌝ }
 {
     if class_at(lut, text, i) != DOT {
-        return Scan::Hit(words::kind_of(node), i);
+        return Scan::Hit(words::kind_of(number), i);
     }
     if text.len() <= i + 1 {
-        return Scan::Hit(words::kind_of(node), i);
+        return Scan::Hit(words::kind_of(number), i);
     }
     let k = class_at(lut, text, i + 1);
     if k < E {
-        return Scan::Hit(words::kind_of(node), i);
+        return Scan::Hit(words::kind_of(number), i);
     }
     if DOT <= k {
-        return Scan::Hit(words::kind_of(node), i);
+        return Scan::Hit(words::kind_of(number), i);
     }
     name_of(lut, text, i + 2)
 }
 
-// The identifier or keyword that starts with a letter of the class `first`: a keyword is told on the way, by the node of the trie that its letters lead to.
-fn word_of(lut: &[u8; 768], text: &[u8], first: u8) -> Scan
-    requires { ⌜ (now lut ≡ tables) × (0 < length (now text)) × (first ≡ classOf (getD (now text) 0 0)) × (8 ≤ first) × (first < 36) × Reached (now text) State.start 0 Miss ⌝ }
-    ensures { λ r. ⌜ r ≡ scan (now (text .entry)) ⌝ }
+// The word that goes on at `at`, its bytes so far known by their number alone: any number, whatever they were.
+fn word_from(lut: &[u8; 768], text: &[u8], at: usize, number: u8) -> Scan
+    requires { ⌜ (now lut ≡ tables) × Reached (now text) State.named at (Hit T.Identifier at) × (number < numbers) ⌝ }
+    ensures { λ r. ⌜ r ≡ wordFrom number at (now (text .entry)) (longest (now (text .entry))) ⌝ }
 {
-    let mut node = words::child(lut, words::ROOT, first);
-    let mut i: usize = 1;
+    let mut now = number;
+    let mut i = at;
     while i < text.len() {
-        if node == 0 {
+        if now == words::NO_KEYWORD {
             return name_of(lut, text, i);
         }
         let k = class_at(lut, text, i);
         if DOT <= k {
-            return word_end(lut, text, i, node);
+            return word_end(lut, text, i, now);
         }
-        node = words::child(lut, node, k);
+        now = words::step(lut, now, k);
         i += 1;
     }
-    Scan::Hit(words::kind_of(node), i)
+    Scan::Hit(words::kind_of(now), i)
+}
+
+// The identifier or keyword that starts with a letter of the class `first`.
+fn word_of(lut: &[u8; 768], text: &[u8], first: u8) -> Scan
+    requires { ⌜ (now lut ≡ tables) × (0 < length (now text)) × (first ≡ classOf (getD (now text) 0 0)) × (8 ≤ first) × (first < 36) × Reached (now text) State.start 0 Miss ⌝ }
+    ensures { λ r. ⌜ r ≡ wordFrom start 0 (now (text .entry)) (longest (now (text .entry))) ⌝ }
+{
+    let number = words::step(lut, words::START, first);
+    word_from(lut, text, 1, number)
 }
 
 // The token of one byte, by its class.

@@ -1,28 +1,33 @@
-// Keywords, told by the node of the trie that their letters lead to.
+// Keywords, told by the number that a word's bytes lead to. Neither function is lent the text.
 use token::Token;
 ghost use mathlib.Core.Path.{_≡_};
 ghost use Prim.Native.Nat.{_<_};
 ghost use Rattle.token.specs.Tables.{tables};
-ghost use Rattle.token.specs.Words.{child, kindOf};
+ghost use Rattle.token.specs.WordNumber.{stepBy, kindOf};
 
-// The node of the empty word.
-pub const ROOT: u8 = 1;
+// The number at the start of a word, and the one where no keyword begins with the bytes so far.
+pub const START: u8 = 1;
 
-// The node behind a byte of the class k; 0 where no keyword goes on.
-pub fn child(lut: &[u8; 768], node: u8, k: u8) -> u8
+pub const NO_KEYWORD: u8 = 0;
+
+// The number behind a byte of the class k.
+pub fn step(lut: &[u8; 768], number: u8, k: u8) -> u8
     requires { ⌜ (now lut ≡ tables) × (k < 36) ⌝ }
-    ensures { λ r. ⌜ r ≡ child node k ⌝ }
+    ensures { λ r. ⌜ r ≡ stepBy number k ⌝ }
 {
-    let t = lut[256 + node as usize] as usize + k as usize;
-    if lut[512 + t] == node { t as u8 } else { 0 }
+    let next = lut[256 + number as usize] as usize + k as usize;
+    if lut[512 + next] == number {
+        next as u8
+    } else {
+        NO_KEYWORD
+    }
 }
 
-// The kind of the word that a node spells.
-pub fn kind_of(node: u8) -> Token
-    requires { ⌜ node < 151 ⌝ }
-    ensures { λ r. ⌜ r ≡ kindOf node ⌝ }
+// The kind of the word with this number.
+pub fn kind_of(number: u8) -> Token
+    ensures { λ r. ⌜ r ≡ kindOf number ⌝ }
 {
-    match node {
+    match number {
         146 => Token::Namespace,
         150 => Token::CppInclude,
         134 => Token::Include,

@@ -1,13 +1,17 @@
--- Worked examples of `scan`, by computation.
+-- Worked examples of `scan` and of the number of a word, by computation.
 use mathlib.Core.Path.{_≡_, refl}
 use mathlib.Core.List.{List, _++_}
+use mathlib.Core.Option.{Option, some, none}
 use Prim.Native.Nat.{ℕ}
 use Prim.Native.String.{String}
 use Rattle.token.specs.Regex.{bytes}
-use Rattle.token.specs.Patterns.{words, rules}
+use Rattle.token.specs.Patterns.{Word, token, words, rules}
 use Rattle.token.specs.Scan.{first, keep, scanFrom, scan}
 use Rattle.token.specs.Automaton.{rulesAt}
 use Rattle.token.specs.Breaks.{Stops}
+use Rattle.token.specs.Tables.{classes, trie}
+use Rattle.token.specs.Run.{classOf}
+use Rattle.token.specs.WordNumber.{stepBy, step, numberFrom, number, keywordIn, keyword as keywordOf}
 use Rattle.token.specs.declared.Token.the-variants as T
 use Rattle.token.specs.declared.Scan.{Scan}
 use Rattle.token.specs.declared.Scan.the-variants.{Miss, Hit}
@@ -94,3 +98,33 @@ run-of-blanks = refl
 struct : (r : List ℕ) → Stops T.Struct r → scan (bytes "struct" ++ r) ≡ Hit T.Struct 6
 unfolding on
 struct r st = fixed (bytes "struct") r T.Struct tt refl st
+
+-- ---- the keyword that the number of some bytes stands for
+
+unfoldable stands : String → Option Word
+unfolding words token bytes number numberFrom step stepBy classOf classes trie keywordOf keywordIn
+stands s = keywordOf (number (bytes s))
+
+include : stands "include" ≡ some (token T.Include "include")
+unfolding stands
+include = refl
+
+prefix-of-include : stands "in" ≡ none
+unfolding stands
+prefix-of-include = refl
+
+longer-than-include : stands "includes" ≡ none
+unfolding stands
+longer-than-include = refl
+
+first-of-parts : stands "include.a" ≡ none
+unfolding stands
+first-of-parts = refl
+
+truth : stands "true" ≡ some (token T.BooleanLiteral "true")
+unfolding stands
+truth = refl
+
+other-case : stands "True" ≡ none
+unfolding stands
+other-case = refl

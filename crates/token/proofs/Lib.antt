@@ -6,7 +6,7 @@ pub mod Same
 pub mod Classes
 pub mod Reach
 pub mod Words
-pub mod Trie
+pub mod WordNumber
 pub mod Tables
 pub mod Matching
 pub mod Meaning

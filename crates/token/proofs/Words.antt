@@ -211,7 +211,7 @@ unfolding scan longest after rename
 scan-words t = words-from t [] t Miss refl
 
 -- a text that starts with no word is scanned as it is
-pub scan-plain : (t : List ℕ) (b : Scan) → NoWord t 0 → longest t ≡ b → scan t ≡ b
+pub scan-plain : (t : List ℕ) (b : Scan) → NoWord t → longest t ≡ b → scan t ≡ b
 unfolding rename
 scan-plain t b h e = scan-words t ∙ ap (rename t) e ∙ go b
   where
@@ -221,7 +221,7 @@ scan-plain t b h e = scan-words t ∙ ap (rename t) e ∙ go b
 
     go : (b : Scan) → rename t b ≡ b
     go Miss = refl
-    go (Hit k n) = rw (h .plain k n (omega arith)) (ap (λ (x : Token). Hit x n) (idem (is k T.Identifier) k))
+    go (Hit k n) = rw (h .plain k n) (ap (λ (x : Token). Hit x n) (idem (is k T.Identifier) k))
 
 -- an identifier is a keyword if its bytes are
 pub scan-word : (t : List ℕ) (n : ℕ) → longest t ≡ Hit T.Identifier n → scan t ≡ Hit (lookup words (take n t) T.Identifier) n

@@ -8,4 +8,5 @@ pub mod Tables
 pub mod Run
 pub mod Automaton
 pub mod Words
+pub mod WordNumber
 pub mod Breaks
