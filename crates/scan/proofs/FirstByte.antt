@@ -4,7 +4,7 @@
 --     blank-at      a run of blanks
 --     line-at       a line end
 use mathlib.Core.Path.{_≡_, refl, sym, _∙_}
-use mathlib.Core.List.{List, [], _∷_}
+use mathlib.Core.List.{List}
 use Prim.Native.Nat.{ℕ, _+_, _<_, _≤_}
 use native.Mathlib.Omega.{arith}
 use native.Mathlib.Nat.{add-zero}
@@ -18,9 +18,9 @@ use lib.ListN.{length, drop, getD, length-drop}
 use lib.Seq.{getD-drop, drop-drop}
 use Rattle.token.specs.Scan.{scan}
 use Rattle.token.specs.Run.{classOf, before}
-use Rattle.token.specs.Automaton.{start, named, opened, openings, whole-byte, longest, Reached}
+use Rattle.token.specs.Automaton.{named, opened, openings, whole-byte, longest, Reached}
 use Rattle.token.specs.declared.Token.the-variants as T
-use Rattle.token.specs.declared.Scan.the-variants.{Miss, Hit}
+use Rattle.token.specs.declared.Scan.the-variants.{Hit}
 use Rattle.token.proofs.Reach.{reach-start}
 use Rattle.token.proofs.Classes.{class-below}
 use Rattle.token.proofs.Words.{scan-plain}
