@@ -6,6 +6,7 @@ use Prim.Native.Nat.{ℕ, _≤_}
 use native.Mathlib.Omega.{arith}
 use lib.Dec.{eqb}
 use Rattle.steps.specs.declared.state.State.{State}
+use Rattle.steps.specs.Packed.{unpackedLoc}
 use Rattle.steps.specs.Into.{M, advanced, bytesLeft, closesAt, isSeparator, opened, skipIn, startAt, sum, takeIn, isIdAt}
 use Rattle.steps.proofs.Bytes.{
   Falls,
@@ -107,7 +108,7 @@ module _ (text : List ℕ) where
   field-id-falls b p st t u =
       after-w (take-falls text st t u) λ st₁ t₁ u₁ h. weak-w (λ n i. omega arith)
       (cond-w (eqb (st .kind) 32)
-      (cond-w (isIdAt text (st₁ .last)) (rest-rest (leaf-rests text 17 b p) (falls-rests (expect-falls text 43 2)) st₁ t₁ u₁) (refused-w 9 st))
+      (cond-w (isIdAt text (unpackedLoc (st₁ .last))) (rest-rest (leaf-rests text 17 b p) (falls-rests (expect-falls text 43 2)) st₁ t₁ u₁) (refused-w 9 st))
       (stays-w text st₁ t₁ u₁))
 
   required-some : (k : ℕ) → eqb (requiredOf k) 0 ≡ false → eqb k 255 ≡ false

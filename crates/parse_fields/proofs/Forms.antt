@@ -5,6 +5,7 @@ use mathlib.Core.List.{List}
 use Prim.Native.Nat.{ℕ}
 use lib.Dec.{eqb}
 use Rattle.steps.specs.declared.state.State.{State}
+use Rattle.steps.specs.Packed.{unpackedLoc}
 use Rattle.steps.specs.Into.{isSeparator, loopIn, closesAt, takeIn, M, _⨟_, advanced, after, done, expectIn, isIdAt, leafIn, nodeIn, opened, ownIn, refused, startAt, sum}
 use Rattle.parse_values.specs.Into.{typeIn, valueIn}
 use Rattle.parser.specs.Definitions.{nesting}
@@ -31,7 +32,7 @@ unfolding annotationsIn
 annotations-is text b p st t u = refl
 
 pub field-id-is : (text : List ℕ) (b : ℕ) (p : ℕ) (st : State) (t u : List ℕ) → fieldIdIn text b p st t u ≡
-    after (takeIn text st t u) (λ st₁ t u. cond (eqb (st .kind) 32) (cond (isIdAt text (st₁ .last)) ((leafIn 17 b p ⨟ expectIn text 43 2) st₁ t u) (refused 9 st)) (done st₁ t u))
+    after (takeIn text st t u) (λ st₁ t u. cond (eqb (st .kind) 32) (cond (isIdAt text (unpackedLoc (st₁ .last))) ((leafIn 17 b p ⨟ expectIn text 43 2) st₁ t u) (refused 9 st)) (done st₁ t u))
 unfolding fieldIdIn
 field-id-is text b p st t u = refl
 

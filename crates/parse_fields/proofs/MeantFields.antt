@@ -15,7 +15,6 @@ use Rattle.token.specs.Code.{code, is, among}
 use Rattle.token.specs.declared.Token.{Token}
 use Rattle.token.specs.declared.Token.the-variants as T
 use Rattle.lexer.specs.declared.location.LOC.{LOC}
-use Rattle.lexer.specs.declared.location.Span.{Span}
 use Rattle.lexer.specs.Tokens.{Lexeme}
 use Rattle.ast.specs.Ast.{FieldType, FieldInitialValue, annotation, Annotations, Required, default, required, optional, field}
 use Rattle.ast.specs.Tree.{
@@ -60,6 +59,7 @@ use Rattle.parser.specs.Definitions.{
   membersEnd,
   parseMembers,
 }
+use Rattle.steps.specs.Packed.{unpackedLoc}
 use Rattle.steps.specs.Into.{
   done,
   M,
@@ -132,12 +132,12 @@ use Rattle.parse_values.proofs.MeantValues.{literal-tree, value-m}
 -- ---- steps that only write
 
 module _ {A : Type 0} {Q : A → State → List ℕ → List ℕ → St → Type 0} {r : Res A} where
-  pub noded : (n k f : ℕ) (x : Span) (b p : ℕ) (st : State) (t u : List ℕ) (j : M) → Meant Q (j st (putNode n k f x b p st t) u) r
+  pub noded : (n k f x b p : ℕ) (st : State) (t u : List ℕ) (j : M) → Meant Q (j st (putNode n k f x b p st t) u) r
       → Meant Q (after (nodeIn n k f x b p st t u) j) r
   unfolding after nodeIn
   noded n k f x b p st t u j h = h
 
-  leafed : (k b p : ℕ) (st : State) (t u : List ℕ) (j : M) → Meant Q (j (opened st) (put (placeOf b (st .next)) (row k p 0 (st .last)) t) u) r
+  leafed : (k b p : ℕ) (st : State) (t u : List ℕ) (j : M) → Meant Q (j (opened st) (put (placeOf b (st .next)) (row k p 0 (unpackedLoc (st .last))) t) u) r
       → Meant Q (after (leafIn k b p st t u) j) r
   unfolding after leafIn
   leafed k b p st t u j h = h

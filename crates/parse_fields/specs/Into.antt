@@ -10,6 +10,7 @@ use Rattle.lexer.specs.Error as E
 use Rattle.ast.specs.Kind as K
 use Rattle.parser.specs.Definitions.{nesting}
 use Rattle.steps.specs.declared.state.State.{State}
+use Rattle.steps.specs.Packed.{unpackedLoc}
 use Rattle.steps.specs.Into.{M, after, _⨟_, sum, opened, leafIn, nodeIn, advanced, refused, startAt, takeIn, expectIn, isSeparator, skipIn, skipCommentsIn, ownIn, loopIn, closesAt, isIdAt, done}
 use Rattle.parse_values.specs.Into.{typeIn, valueIn}
 
@@ -46,7 +47,7 @@ unfoldable pub fieldIdIn : List ℕ → ℕ → ℕ → M
 fieldIdIn text b p st t u =
     after (takeIn text st t u)
     (λ st₁ t u. cond (eqb (st .kind) T.IntegerLiteral)
-    (cond (isIdAt text (st₁ .last)) ((leafIn K.FieldId b p ⨟ expectIn text T.Colon E.UnexpectedToken) st₁ t u) (refused E.InvalidFieldId st))
+    (cond (isIdAt text (unpackedLoc (st₁ .last))) ((leafIn K.FieldId b p ⨟ expectIn text T.Colon E.UnexpectedToken) st₁ t u) (refused E.InvalidFieldId st))
     (done st₁ t u))
 
 unfoldable pub requiredOf : ℕ → ℕ

@@ -6,7 +6,6 @@ use Prim.Native.Nat.{ℕ, zero, suc, _-_}
 use native.Mathlib.Omega.{arith}
 use lib.Dec.{eqb}
 use borrow.Author.Tests.{ne-eqb}
-use Rattle.lexer.specs.declared.location.Span.{Span}
 use Rattle.steps.specs.declared.state.State.{State}
 use Rattle.steps.specs.Into.{M, Out, _⨟_, after, expectIn, leafIn, nodeIn, opened, refused, startAt, takeIn}
 use Rattle.parse_values.specs.Into.{
@@ -77,11 +76,11 @@ pub map-is : (text : List ℕ) (value : ℕ → M) (b p : ℕ) (st : State) (t u
 unfolding mapIn
 map-is text value b p st t u = refl
 
-pub property-is : (text : List ℕ) (value : ℕ → M) (b p : ℕ) (st : State) (t u : List ℕ) {start : Span} → start ≡ startAt st → propertyIn text value b p st t u ≡
+pub property-is : (text : List ℕ) (value : ℕ → M) (b p : ℕ) (st : State) (t u : List ℕ) {start : ℕ} → start ≡ startAt st → propertyIn text value b p st t u ≡
     after (value (st .next) (opened st) t u) (expectIn text 43 2 ⨟ (value (st .next) ⨟ nodeIn (st .next) 31 0 start b p))
 unfolding propertyIn
 property-is text value b p st t u s =
-    ap (λ (x : Span). after (value (st .next) (opened st) t u) (expectIn text 43 2 ⨟ (value (st .next) ⨟ nodeIn (st .next) 31 0 x b p))) (sym s)
+    ap (λ (x : ℕ). after (value (st .next) (opened st) t u) (expectIn text 43 2 ⨟ (value (st .next) ⨟ nodeIn (st .next) 31 0 x b p))) (sym s)
 
 -- behind a value's first token, by its record as a leaf and whether no container is left
 abbrev pub valueRest : List ℕ → ℕ → ℕ → State → ℕ → Bool → ℕ → M

@@ -41,13 +41,15 @@ use Rattle.steps.specs.declared.state.State.{State}
 use Rattle.parser.specs.Steps.{St, pos, Res, test, fail}
 use Rattle.parser.specs.Definitions.{parseDefinition, over, documentEnd, parseDocument}
 use Rattle.parser.specs.Read.{parsed, endRule, answered, outcomeBy, outcome, fitted, answer, left, rowsBy, Reading, reading}
+use Rattle.steps.specs.Packed.{packed, unpacked, packedLoc, unpackedLoc}
 use Rattle.steps.specs.Into.{Out, done, stop, refused, closesAt, lexerAt, restAt, wiped}
 use Rattle.reader.specs.Into.{inRest, restIn, overIn, betweenIn, documentIn, beginning, refusing, ended, refusingAt, fits, judged, unscanned, settled, parsing}
 use Rattle.reader.proofs.Whole.{read-unknown}
+use Rattle.steps.proofs.PackLaws.{unpacked-packed, loc-back, small-span}
 use Rattle.steps.proofs.TableLaws.{lay, lay-append, length-lay, lay-rest, wiped-lay}
 use Rattle.steps.proofs.ForestLaws.{_⊕_, sizes-plus, counts-plus, rows-plus, notes-plus}
 use Rattle.parser.proofs.Paid.{tokens-bound}
-use Rattle.steps.proofs.Seen.{advance-ahead, moved, waitingOf, Frame, At, Meant, went, halted}
+use Rattle.steps.proofs.Seen.{Sound, AheadOf, lexer-span, advance-ahead, moved, waitingOf, Frame, At, Meant, went, halted}
 use Rattle.steps.proofs.StepLaws.{none-ahead, some-ahead, sound-ahead}
 use Rattle.steps.proofs.SkipLaws.{separators-m, comments-m}
 use Rattle.reader.proofs.Bytes.{between-rests, rest-falls}
@@ -132,19 +134,19 @@ module _ (text : List ℕ) (short : length text ≤ 65536) where
 
   -- ---- the document
 
-  refused-none : (e : ℕ) (st : State) (l : LOC) → eqb (st .kind) 255 ≡ true → st .last ≡ l → refused e st ≡ stop 3 l
+  refused-none : (e : ℕ) (st : State) → eqb (st .kind) 255 ≡ true → refused e st ≡ stop 3 (st .last)
   unfolding refused
-  refused-none e st l k h = rw (k, h)
+  refused-none e st k = rw k
 
-  over-in : (st : State) (t u : List ℕ) (l : LOC) (z : Bool) → st .last ≡ l → eqb (l .end .index) 1 ≡ z → overIn st t u ≡ cond z (refused 3 st) (done st t u)
+  over-in : (st : State) (t u : List ℕ) (l : LOC) (z : Bool) → unpackedLoc (st .last) ≡ l → eqb (l .end .index) 1 ≡ z → overIn st t u ≡ cond z (refused 3 st) (done st t u)
   unfolding overIn
-  over-in st t u l z h e = let d : eqb (st .last .end .index) 1 ≡ z = ap (λ (x : LOC). eqb (x .end .index) 1) h ∙ e in rw d
+  over-in st t u l z h e = let d : eqb (unpacked (st .last .end) .index) 1 ≡ z = ap (λ (x : LOC). eqb (x .end .index) 1) h ∙ e in rw d
 
   over-by : {i b p : ℕ} {fr : Frame} {f : Forest} {st : State} {t u : List ℕ} (l : LOC) (c : List Lexeme) → At text i b p fr f st t u (pos l c [])
       → (z : Bool) → eqb (l .end .index) 1 ≡ z → Turn text i b p fr f (closesAt 255) overIn (done st t u) (over (pos l c []))
   unfolding over closesAt test fail
   over-by {st = st} {t = t} {u = u} l c h true e =
-      rw e (refuses (none-ahead (h .ahead)) (over-in st t u l true (h .last) e ∙ refused-none 3 st l (none-ahead (h .ahead)) (h .last)))
+      rw (e, ← h .last) (refuses (none-ahead (h .ahead)) (over-in st t u l true (h .last) e ∙ refused-none 3 st (none-ahead (h .ahead))))
   over-by {st = st} {t = t} {u = u} l c h false e = rw e (shuts (none-ahead (h .ahead)) (over-in st t u l false (h .last) e) h)
 
   over-turn : {i b p : ℕ} {fr : Frame} {f : Forest} {st : State} {t u : List ℕ} (s : St) → At text i b p fr f st t u s
@@ -169,15 +171,31 @@ module _ (text : List ℕ) (short : length text ≤ 65536) where
 
   -- ---- the whole
 
+  opening-sound : Sound text opening
+  unfolding opening
+  opening-sound = refl
+
+  -- the state in front of the text: its place is the first one
+  beginning-ahead : AheadOf text (beginning text) (tokens text opening)
+  unfolding beginning between
+  beginning-ahead =
+      let l = packedLoc (between opening opening) in
+      let z = small-span opening opening-placed in
+      let e : lexerAt (unpacked (packed (spanOf opening))) ≡ opening =
+      ap lexerAt (unpacked-packed (spanOf opening) z) ∙ lexer-span opening (opening-placed .line-begun) in
+      rw e at
+      (advance-ahead text short (record { kind = 255; loc = l; last = l; next = 0; owned = 0; waiting = 0 }) (rw e opening-placed) (rw e opening-sound))
+
   pub beginning-at : (t u : List ℕ) → At text 8 0 noParent (lent t u) bare (beginning text) t u (pos (between opening opening) [] (tokens text opening))
-  unfolding beginning opening between spanOf lexerAt lay rowsOf commentRowsOf sizes noteCounts owned
+  unfolding beginning between lay rowsOf commentRowsOf sizes noteCounts owned
   beginning-at t u =
-      let l = between opening opening in
+      let l = packedLoc (between opening opening) in
       let st : State = record { kind = 255; loc = l; last = l; next = 0; owned = 0; waiting = 0 } in
       let m = moved text st in
+      let z = small-span opening opening-placed in
       record {
-        last = m .last;
-        ahead = advance-ahead text short st opening-placed refl;
+        last = ap unpackedLoc (m .last) ∙ loc-back (between opening opening) z z;
+        ahead = beginning-ahead;
         next = m .next;
         nodes = refl;
         count = m .owned;

@@ -14,6 +14,7 @@ use Rattle.lexer.specs.Cuts.{cuts, unrecognized}
 use Rattle.ast.specs.Records.{width, room, cleared}
 use Rattle.parser.specs.Read.{Reading}
 use Rattle.steps.specs.declared.state.State.{State}
+use Rattle.steps.specs.Packed.{unpacked, packedLoc, unpackedLoc}
 use Rattle.steps.specs.Into.{Out, M, _⨟_, noToken, restAt, wiped, advanced, refused, skipIn, skipCommentsIn, loopIn, closesAt, done, stop}
 use Rattle.parse_definitions.specs.Into.{definitionIn}
 
@@ -28,7 +29,7 @@ unfoldable pub restIn : List ℕ → M
 restIn text st t u = let i = restAt (length t) (st .next) in inRest i t (definitionIn text st (drop i t) u)
 
 unfoldable pub overIn : M
-overIn st t u = cond (eqb (st .last .end .index) 1) (refused UnexpectedEOF st) (done st t u)
+overIn st t u = cond (eqb (unpacked (st .last .end) .index) 1) (refused UnexpectedEOF st) (done st t u)
 
 unfoldable pub betweenIn : List ℕ → M
 betweenIn text = skipIn text true ⨟ (skipCommentsIn text false ⨟ skipIn text true)
@@ -38,7 +39,7 @@ documentIn text = loopIn text (closesAt noToken) (betweenIn text) overIn (restIn
 
 unfoldable pub beginning : List ℕ → State
 beginning text =
-    let l = between opening opening in
+    let l = packedLoc (between opening opening) in
     advanced text (record { kind = noToken; loc = l; last = l; next = 0; owned = 0; waiting = 0 })
 
 -- ---- the whole
@@ -61,11 +62,11 @@ fits st t u =
 
 unfoldable pub judged : Out → ℕ → List ℕ → List ℕ → Reading
 judged (done st t′ u′) len t u = fits st t′ u′
-judged (stop e l) len t u = refusingAt e l len t u
+judged (stop e l) len t u = refusingAt e (unpackedLoc l) len t u
 
 -- from where on tokens are still to be looked for: behind what was read; from the start where the grammar refuses
 unfoldable pub unscanned : Out → ℕ
-unscanned (done st t u) = st .loc .end .index
+unscanned (done st t u) = unpacked (st .loc .end) .index
 unscanned (stop e l) = 0
 
 -- 22 comes before what the grammar finds

@@ -5,13 +5,14 @@ ghost use Prim.Native.Nat.{ℕ, _≤_};
 ghost use lib.ListN.{length};
 ghost use Rattle.lexer.specs.Limit.{limit};
 ghost use Rattle.parser.specs.Read.{reading, told};
+ghost use Rattle.steps.specs.Packed.{unpackedLoc};
 ghost use Rattle.steps.specs.Into.{Keeps, Lent, Reads, Still, shows};
 ghost use Rattle.reader.specs.Into.{restIn, overIn, betweenIn, documentIn, beginning, refusing, ended, refusingAt, fits, judged, unscanned, parsing};
 use lexer::error;
-use lexer::location::LOC;
 use lexer::location::Lexer;
-use lexer::location::Span;
 use parser::Answer;
+use steps::packed;
+use steps::packed::Range;
 use steps::state::NONE;
 use steps::state::Parsed;
 use steps::state::State;
@@ -38,7 +39,7 @@ fn over(st: State) -> Parsed
     ensures { λ r. ⌜ Still (overIn) st r ⌝ }
 {
     let last = st.last;
-    if last.end.index == 1 {
+    if packed::index_of(last.end) == 1 {
         return st.refuse(error::UNEXPECTED_EOF);
     }
     Parsed::On(st)
@@ -86,9 +87,9 @@ fn begin(lut: &[u8; 768], text: &[u8]) -> State
     ensures { λ r. ⌜ r ≡ beginning (now (text .entry)) ⌝ }
 {
     let lexer = Lexer::new();
-    let start = lexer.span();
+    let start = packed::pack(lexer.span());
     let end = start;
-    let loc = LOC { start, end };
+    let loc = Range { start, end };
     let last = loc;
     let st = State {
         kind: NONE,
@@ -129,11 +130,11 @@ fn end_rule(number: u32, end: u32, len: usize) -> u32
 }
 
 // A refusal of the grammar.
-fn refuse_at(number: u32, loc: LOC, len: usize, nodes: &mut [u32], comments: &mut [u32]) -> Answer
-    ensures { λ r. ⌜ told r (now (nodes .exit)) (now (comments .exit)) ≡ refusingAt number loc len (now (nodes .entry)) (now (comments .entry)) ⌝ }
+fn refuse_at(number: u32, loc: Range, len: usize, nodes: &mut [u32], comments: &mut [u32]) -> Answer
+    ensures { λ r. ⌜ told r (now (nodes .exit)) (now (comments .exit)) ≡ refusingAt number (unpackedLoc loc) len (now (nodes .entry)) (now (comments .entry)) ⌝ }
 {
-    let start = loc.start.index;
-    let end = loc.end.index;
+    let start = packed::index_of(loc.start);
+    let end = packed::index_of(loc.end);
     let told = end_rule(number, end, len);
     let mut length = 0;
     if start < end {
@@ -170,7 +171,7 @@ fn unscanned(parsed: Parsed) -> usize
         Parsed::Refused(_, _) => 0,
         Parsed::On(state) => {
             let loc = state.loc;
-            loc.end.index as usize
+            packed::index_of(loc.end) as usize
         }
     }
 }

@@ -13,10 +13,9 @@ use mathlib.Core.List.{List, []}
 use Prim.Native.Nat.{ℕ, zero, suc, _+_, _<_, _≤_}
 use native.Mathlib.Omega.{arith}
 use lib.Dec.{eqb, ltb}
-use borrow.Author.Tests.{eqb-true}
-use Rattle.lexer.specs.declared.location.Span.{Span}
+use lib.ListN.{length}
+use borrow.Author.Tests.{eqb-true, ltb-false}
 use Rattle.lexer.specs.declared.location.Lexer.{Lexer}
-use Rattle.lexer.specs.declared.location.LOC.{LOC}
 use Rattle.lexer.specs.declared.location.Span.{Span}
 use Rattle.lexer.specs.declared.location.ParserToken.{ParserToken}
 use Rattle.lexer.specs.declared.location.Next.{Next}
@@ -24,9 +23,11 @@ use Rattle.lexer.specs.declared.location.Next.the-variants as N
 use Rattle.lexer.specs.Tokens as L
 use Rattle.lexer.proofs.NextLaws.{next-inside}
 use Rattle.parser.proofs.KindLaws.{code-some}
+use Rattle.steps.specs.declared.packed.Range.{Range}
 use Rattle.steps.specs.declared.state.State.{State}
 use Rattle.steps.specs.declared.state.Parsed.{Parsed}
 use Rattle.steps.specs.declared.state.Parsed.the-variants.{On}
+use Rattle.steps.specs.Packed.{unpacked}
 use Rattle.steps.specs.Into.{
   Out,
   done,
@@ -42,6 +43,8 @@ use Rattle.steps.specs.Into.{
   nodeIn,
   lexerAt,
   lookAt,
+  found,
+  foundAt,
   aheadOf,
   advanced,
   refused,
@@ -61,27 +64,36 @@ use Rattle.steps.specs.Into.{
   ownIn,
   owns,
 }
+use Rattle.steps.proofs.PackLaws.{index-back}
 
 -- ---- one token further
 
-end-or : (b : Bool) (r : Next) (p : ParserToken) (e : Lexer) → cond b N.End r ≡ N.On p e → r ≡ N.On p e
+end-or : (b : Bool) (r : Next) (p : ParserToken) (e : Lexer) → cond b N.End r ≡ N.On p e → (b ≡ false) × (r ≡ N.On p e)
 end-or true r p e h = let z : _≡_ {A = ℕ} 0 1 = cc in absurd (omega arith)
-end-or false r p e h = h
+end-or false r p e h = (refl, h)
 
 module _ (text : List ℕ) where
-  looked : (x : Span) (e : Lexer) (p : ParserToken) → lookAt text x ≡ N.On p e → L.next text (lexerAt x) ≡ N.On p e
+  looked : (x : Span) (e : Lexer) (p : ParserToken) → lookAt text x ≡ N.On p e → (length text ≤ 65536) × (L.next text (lexerAt x) ≡ N.On p e)
   unfolding lookAt
-  looked x e p h = end-or (ltb (lexerAt x .at) (lexerAt x .line)) _ p e (end-or (ltb 65536 (lexerAt x .at)) _ p e h)
+  looked x e p h =
+      let a = end-or (ltb 65536 (length text)) _ p e h in
+      let b = end-or (ltb 65536 (lexerAt x .at)) _ p e (a .1) in
+      (ltb-false 65536 (length text) (a .0), end-or (ltb (lexerAt x .at) (lexerAt x .line)) _ p e (b .1) .1)
 
-  fewer : (st : State) → eqb (st .kind) 255 ≡ false → (r : Next) → lookAt text (st .loc .end) ≡ r → bytesLeft text (aheadOf r st) < bytesLeft text st
-  unfolding aheadOf bytesLeft lexerAt
-  fewer st h (N.On p s) e = let i = next-inside text (lexerAt (st .loc .end)) s p (looked (st .loc .end) s p e) in rw (h, code-some (p .token)) (omega arith)
+  fewer : (st : State) → eqb (st .kind) 255 ≡ false → (r : Next) → lookAt text (unpacked (st .loc .end)) ≡ r
+      → bytesLeft text (aheadOf (found (st .loc .end) r) st) < bytesLeft text st
+  unfolding aheadOf found bytesLeft lexerAt
+  fewer st h (N.On p s) e =
+      let l = looked (unpacked (st .loc .end)) s p e in
+      let i = next-inside text (lexerAt (unpacked (st .loc .end))) s p (l .1) in
+      let z = index-back (p .loc .end) (omega (arith, i .2, i .3, l .0)) in
+      rw (h, code-some (p .token)) (omega arith)
   fewer st h N.End e = rw h (omega arith)
   fewer st h (N.Unrecognized p) e = rw h (omega arith)
 
   pub advance-falls : (st : State) → eqb (st .kind) 255 ≡ false → bytesLeft text (advanced text st) < bytesLeft text st
-  unfolding advanced
-  advance-falls st h = fewer st h (lookAt text (st .loc .end)) refl
+  unfolding advanced foundAt
+  advance-falls st h = fewer st h (lookAt text (unpacked (st .loc .end))) refl
 
   -- a comment that waits is still ahead
   pub wait-falls : (st : State) → eqb (st .kind) 255 ≡ false → bytesLeft text (advanced text (waits st)) < bytesLeft text st
@@ -92,7 +104,7 @@ module _ (text : List ℕ) where
 
 pub data Within (text : List ℕ) (x b : ℕ) : Out → Type 0 where
   within : {st : State} {t u : List ℕ} → x + bytesLeft text st ≤ b → Within text x b (done st t u)
-  stopped : {e : ℕ} {l : LOC} → Within text x b (stop e l)
+  stopped : {e : ℕ} {l : Range} → Within text x b (stop e l)
 
 abbrev pub Falls : List ℕ → M → Type 0
 Falls text m = (st : State) (t u : List ℕ) → Within text 1 (bytesLeft text st) (m st t u)
@@ -202,7 +214,7 @@ module _ (text : List ℕ) where
   unfolding leafIn opened bytesLeft
   leaf-rests k b p st t u = within {st = opened st} (omega arith)
 
-  pub node-rests : (n k f : ℕ) (s : Span) (b p : ℕ) → Rests text (nodeIn n k f s b p)
+  pub node-rests : (n k f s b p : ℕ) → Rests text (nodeIn n k f s b p)
   unfolding nodeIn
   node-rests n k f s b p st t u = within {st = st} (omega arith)
 

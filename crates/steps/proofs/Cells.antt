@@ -6,8 +6,9 @@ use native.Mathlib.Omega.{arith}
 use borrow.Author.Tests.{le-leb, lt-leb}
 use lib.ListN.{length, take, drop, set, replicate, length-set}
 use lib.Seq.{sets-eq, take-suc-set, take-all, append-snoc}
-use Rattle.lexer.specs.declared.location.LOC.{LOC}
 use Rattle.ast.specs.Records.{width, row, room, cleared}
+use Rattle.steps.specs.declared.packed.Range.{Range}
+use Rattle.steps.specs.Packed.{unpacked, unpackedLoc}
 use Rattle.steps.specs.Into.{put, putParent, wiped}
 
 -- nine stores in a row
@@ -31,11 +32,13 @@ module _ (i : ℕ) where
   unfolding put room width
   put-off r t h = rw (le-leb _ _ h)
 
-  pub put-on : (k p f : ℕ) (l : LOC) (t : List ℕ) → i < length t / 9
+  pub put-on : (k p f : ℕ) (l : Range) (t : List ℕ) → i < length t / 9
       → let at = i * 9 in
       let head = set (set (set t at k) (at + 1) p) (at + 2) f in
-      let starts = set (set (set head (at + 3) (l .start .index)) (at + 4) (l .start .line)) (at + 5) (l .start .column) in
-      set (set (set starts (at + 6) (l .end .index)) (at + 7) (l .end .line)) (at + 8) (l .end .column) ≡ put i (row k p f l) t
+      let s = unpacked (l .start) in
+      let e = unpacked (l .end) in
+      let starts = set (set (set head (at + 3) (s .index)) (at + 4) (s .line)) (at + 5) (s .column) in
+      set (set (set starts (at + 6) (e .index)) (at + 7) (e .line)) (at + 8) (e .column) ≡ put i (row k p f (unpackedLoc l)) t
   unfolding put room width row
   put-on k p f l t h = rw (lt-leb _ _ h) (stores (i * 9) k p f _ _ _ _ _ _ t (omega arith))
 

@@ -11,8 +11,7 @@ use mathlib.Core.List.{List}
 use Prim.Native.Nat.{ℕ}
 use lib.Dec.{eqb}
 use borrow.Author.Tests.{eq-eqb, ne-eqb}
-use Rattle.lexer.specs.declared.location.LOC.{LOC}
-use Rattle.lexer.specs.declared.location.Span.{Span}
+use Rattle.steps.specs.declared.packed.Range.{Range}
 use Rattle.steps.specs.declared.state.State.{State}
 use Rattle.steps.specs.declared.state.Parsed.{Parsed}
 use Rattle.steps.specs.declared.state.Parsed.the-variants.{On, Refused}
@@ -23,7 +22,7 @@ module _ (W m : Out) (k : M) (w : W ≡ after m k) where
   unfolding after shows
   on a st t u e h = w ∙ ap (λ (x : Out). after x k) (sym e ∙ ap (λ (x : Parsed). shows x t u) h)
 
-  pub off : (a : Parsed) (e : ℕ) (l : LOC) (t u : List ℕ) → shows a t u ≡ m → a ≡ Refused e l → (t′ u′ : List ℕ) → shows a t′ u′ ≡ W
+  pub off : (a : Parsed) (e : ℕ) (l : Range) (t u : List ℕ) → shows a t u ≡ m → a ≡ Refused e l → (t′ u′ : List ℕ) → shows a t′ u′ ≡ W
   unfolding after shows
   off a e l t u s h t′ u′ =
       ap (λ (x : Parsed). shows x t′ u′) h ∙ sym (w ∙ ap (λ (x : Out). after x k) (sym s ∙ ap (λ (x : Parsed). shows x t u) h))
@@ -35,7 +34,7 @@ module _ (W m : Out) (k : M) (w : W ≡ after m k) where
 pub last : (W m : Out) (a : Parsed) (t u : List ℕ) → W ≡ m → shows a t u ≡ m → shows a t u ≡ W
 last W m a t u w e = e ∙ sym w
 
-pub node : (W : Out) (n k f : ℕ) (s : Span) (b p : ℕ) (st : State) (t u t′ : List ℕ) → W ≡ nodeIn n k f s b p st t u → t′ ≡ putNode n k f s b p st t →
+pub node : (W : Out) (n k f s b p : ℕ) (st : State) (t u t′ : List ℕ) → W ≡ nodeIn n k f s b p st t u → t′ ≡ putNode n k f s b p st t →
     shows (On st) t′ u ≡ W
 unfolding nodeIn shows
 node W n k f s b p st t u t′ w e = ap (λ (x : List ℕ). done st x u) e ∙ sym w
@@ -72,15 +71,15 @@ pub no-by : (W A B : Out) (b r : Bool) → W ≡ cond b A B → r ≡ b → r �
 no-by W A B b r w e h = w ∙ ap (λ (x : Bool). cond x A B) (sym e ∙ h)
 
 -- a node's own record, with more behind it
-pub noted : (n k f : ℕ) (s : Span) (b p : ℕ) (st : State) (t u t′ : List ℕ) → t′ ≡ putNode n k f s b p st t → done st t′ u ≡ nodeIn n k f s b p st t u
+pub noted : (n k f s b p : ℕ) (st : State) (t u t′ : List ℕ) → t′ ≡ putNode n k f s b p st t → done st t′ u ≡ nodeIn n k f s b p st t u
 unfolding nodeIn
 noted n k f s b p st t u t′ e = ap (λ (x : List ℕ). done st x u) e
 
 -- the same where the flags and the start were computed by calls
-pub node-by : (W : Out) (n k f : ℕ) (s : Span) (b p : ℕ) (st : State) (t u t′ : List ℕ) (g : ℕ) (r : Span) → W ≡ nodeIn n k f s b p st t u →
+pub node-by : (W : Out) (n k f s b p : ℕ) (st : State) (t u t′ : List ℕ) (g r : ℕ) → W ≡ nodeIn n k f s b p st t u →
     t′ ≡ putNode n k g r b p st t → g ≡ f → r ≡ s → shows (On st) t′ u ≡ W
 node-by W n k f s b p st t u t′ g r w e h i =
-    node W n k f s b p st t u t′ w (e ∙ ap₂ (λ (x : ℕ) (y : Span). putNode n k x y b p st t) h i)
+    node W n k f s b p st t u t′ w (e ∙ ap₂ (λ (x y : ℕ). putNode n k x y b p st t) h i)
 
 -- the state that an advance returned
 pub done-by : (W : Out) (text : List ℕ) (st st′ : State) (t u : List ℕ) → W ≡ advanceIn text st t u → st′ ≡ advanced text st → done st′ t u ≡ W

@@ -1,3 +1,4 @@
+pub mod PackLaws
 pub mod Chain
 pub mod Bytes
 pub mod LoopForms

@@ -13,15 +13,16 @@ use lib.Dec.{eqb}
 use lib.ListN.{length, length-append}
 use Rattle.token.specs.Code.{code}
 use Rattle.token.specs.declared.Token.{Token}
-use Rattle.lexer.specs.declared.location.Span.{Span}
 use Rattle.lexer.specs.declared.location.LOC.{LOC}
 use Rattle.lexer.specs.Tokens.{Lexeme, lexeme}
 use Rattle.ast.specs.Largest.{bump}
 use Rattle.ast.specs.Tree.{Tree, node, Forest, bare, grown, leaf, single}
 use Rattle.ast.specs.Records.{row, sizes, rowsOf, owned, commentRowsOf}
 use Rattle.ast.proofs.Counts.{row-width, forest-wide, comments-wide, owned-wide, owned-count, append-all, noteCounts, note-counts, rows-sizes}
+use Rattle.steps.specs.declared.packed.Range.{Range}
 use Rattle.steps.specs.declared.state.State.{State}
 use Rattle.parser.specs.Steps.{kind, place, span, St, pos, Res, ok, no, P, bind, test, next, when, peek, closed, loop, many}
+use Rattle.steps.specs.Packed.{unpacked, unpackedLoc}
 use Rattle.steps.specs.Into.{
   Out,
   done,
@@ -138,8 +139,8 @@ regroup : (a b c d : List (List ℕ)) → ((a ++ b) ++ c) ++ d ≡ a ++ (b ++ (c
 regroup a b c d = simp append-assoc
 
 pub finish-at : {text : List ℕ} {i j b p : ℕ} {fr : Frame} {f g : Forest} {st st′ : State} {t t′ u u′ : List ℕ} {s s′ : St}
-    (k fl : ℕ) (a : LOC) (x : Span) (w : List ℕ) (c : List Lexeme)
-    → At text i b p fr f st t u s → At text j b (st .next) (inside fr f (st .next) t c) g st′ t′ u′ s′ → x ≡ a .start
+    (k fl : ℕ) (a : LOC) (x : ℕ) (w : List ℕ) (c : List Lexeme)
+    → At text i b p fr f st t u s → At text j b (st .next) (inside fr f (st .next) t c) g st′ t′ u′ s′ → unpacked x ≡ a .start
     → At text j b p fr (f ⊕ single (node k fl (span a (lastOf s′)) w c g)) st′ (putNode (st .next) k fl x b p st′ t′) u′ s′
 unfolding putNode placeOf span
 finish-at {b = b} {p = p} {fr = fr} {f = f} {g = g} {st = st} {st′ = st′} {t = t} {t′ = t′} {s′ = s′} k fl a x w c h d e =
@@ -156,7 +157,7 @@ finish-at {b = b} {p = p} {fr = fr} {f = f} {g = g} {st = st} {st′ = st′} {t
       ahead = d .ahead;
       next = d .next ∙ omega (arith, h .next, one-size k fl l w c g f);
       nodes =
-          rw (e, d .last)
+          rw (e, ap (λ (y : LOC). y .end) (d .last))
           (ap (put (n - b) r) (d .nodes ∙ ap (λ (y : ℕ). lay y (rowsOf g n (suc n)) t) v)
           ∙ put-lay (n - b) r t (row-width k p fl l) (forest-wide g n (suc n))
           ∙ ap (lay (n - b) (r ∷ rowsOf g n (suc n))) (h .nodes)
@@ -176,7 +177,7 @@ finish-at {b = b} {p = p} {fr = fr} {f = f} {g = g} {st = st} {st′ = st′} {t
 
 pub leaf-at : {text : List ℕ} {i b p : ℕ} {fr : Frame} {f : Forest} {st : State} {t u : List ℕ} {s : St} (k : ℕ) (tok : Lexeme)
     → At text (suc i) b p fr f st t u s → lastOf s ≡ place tok
-    → At text i b p fr (f ⊕ single (leaf k tok)) (opened st) (put (placeOf b (st .next)) (row k p 0 (st .last)) t) u s
+    → At text i b p fr (f ⊕ single (leaf k tok)) (opened st) (put (placeOf b (st .next)) (row k p 0 (unpackedLoc (st .last))) t) u s
 unfolding leaf place opened putNode span
 leaf-at {f = f} {st = st} {s = s} k (lexeme q w l) h e =
     rw e at (finish-at k 0 (lastOf s) (st .last .start) w [] h (open-at h) (ap (λ (x : LOC). x .start) (h .last)))
@@ -195,9 +196,10 @@ leaf-m k halted = halted
 pub data Turn (text : List ℕ) (i b p : ℕ) (fr : Frame) (f : Forest) (closes : State → Bool) (shut : M) : Out → Res Bool → Type 0 where
   shuts : {st st′ : State} {t u t′ u′ : List ℕ} {s : St} → closes st ≡ true → shut st t u ≡ done st′ t′ u′ → At text i b p fr f st′ t′ u′ s
       → Turn text i b p fr f closes shut (done st t u) (ok true s)
-  refuses : {st : State} {t u : List ℕ} {e : ℕ} {l : LOC} → closes st ≡ true → shut st t u ≡ stop e l → Turn text i b p fr f closes shut (done st t u) (no e l)
+  refuses : {st : State} {t u : List ℕ} {e : ℕ} {l : Range} → closes st ≡ true → shut st t u ≡ stop e l
+      → Turn text i b p fr f closes shut (done st t u) (no e (unpackedLoc l))
   goes : {st : State} {t u : List ℕ} {s : St} → closes st ≡ false → At text i b p fr f st t u s → Turn text i b p fr f closes shut (done st t u) (ok false s)
-  halts : {e : ℕ} {l : LOC} → Turn text i b p fr f closes shut (stop e l) (no e l)
+  halts : {e : ℕ} {l : Range} → Turn text i b p fr f closes shut (stop e l) (no e (unpackedLoc l))
 
 module _ {text : List ℕ} {i b p : ℕ} {fr : Frame} {f : Forest} {closes : State → Bool} {shut : M} {A : Type 0} {Q : A → State → List ℕ → List ℕ → St → Type 0} where
   pub turn-after : {o : Out} {r : Res A} {k : M} {g : A → P Bool} → Meant Q o r

@@ -32,11 +32,15 @@ use Rattle.ast.specs.Lists.{All}
 use Rattle.ast.specs.Tree.{Forest}
 use Rattle.ast.specs.Records.{sizes, rowsOf, owned, commentRowsOf}
 use Rattle.ast.proofs.Counts.{Wide, noteCounts}
+use Rattle.steps.specs.declared.packed.Range.{Range}
 use Rattle.steps.specs.declared.state.State.{State}
 use Rattle.parser.specs.Steps.{kind, bytes, place, St, pos, Res, ok, no, P, bind, test}
 use Rattle.parser.specs.Definitions.{isId}
+use Rattle.parser.proofs.KindLaws.{code-some}
 use Rattle.ast.specs.Largest.{bump}
-use Rattle.steps.specs.Into.{Out, done, stop, M, after, sum, lexerAt, lookAt, aheadOf, advanced, bytesLeft, isIdAt}
+use Rattle.steps.specs.Packed.{packed, unpacked, unpackedLoc}
+use Rattle.steps.specs.Into.{Out, done, stop, M, after, sum, lexerAt, lookAt, found, foundAt, aheadOf, advanced, bytesLeft, isIdAt}
+use Rattle.steps.proofs.PackLaws.{unpacked-packed, loc-back, start-small, end-small}
 use Rattle.steps.proofs.TableLaws.{lay}
 use Rattle.steps.proofs.ForestLaws.{_⊕_}
 use Rattle.steps.proofs.Bytes.{Within, within}
@@ -54,9 +58,9 @@ small-sum a b h = rw (le-leb a (4294967295 - b) (omega arith))
 -- ---- the token ahead
 
 -- the code and the place of a token, of the text
-pub record First (text : List ℕ) (k : ℕ) (l : LOC) (t : Lexeme) : Type 0 where
+pub record First (text : List ℕ) (k : ℕ) (l : Range) (t : Lexeme) : Type 0 where
   pub coded : k ≡ code (kind t)
-  pub placed : l ≡ place t
+  pub placed : unpackedLoc l ≡ place t
   pub spelled : isIdAt text (place t) ≡ isId (bytes t)
 
 -- behind the lexer's offset no token starts at the same place as in the whole text, if there is one
@@ -64,12 +68,12 @@ abbrev pub Sound : List ℕ → Lexer → Type 0
 Sound text x = Stuck text x ≡ unrecognized (cuts text) 0
 
 -- the tokens left, with the code's kind, place and lexer
-pub data Ahead (text : List ℕ) (k : ℕ) (l : LOC) (x : Lexer) : List Lexeme → Type 0 where
+pub data Ahead (text : List ℕ) (k : ℕ) (l : Range) (x : Lexer) : List Lexeme → Type 0 where
   over : k ≡ 255 → Sound text x → Ahead text k l x []
   on : {t : Lexeme} {ts : List Lexeme} → First text k l t → ts ≡ tokens text x → Placed x → 0 < x .at → Sound text x → Ahead text k l x (t ∷ ts)
 
 abbrev pub AheadOf : List ℕ → State → List Lexeme → Type 0
-AheadOf text st ts = Ahead text (st .kind) (st .loc) (lexerAt (st .loc .end)) ts
+AheadOf text st ts = Ahead text (st .kind) (st .loc) (lexerAt (unpacked (st .loc .end))) ts
 
 -- what an advance keeps
 pub record Moved (st : State) (r : State) : Type 0 where
@@ -94,24 +98,30 @@ lexer-span s h =
 module _ (text : List ℕ) (short : length text ≤ 65536) where
   look : (e : Span) → Placed (lexerAt e) → lookAt text e ≡ L.next text (lexerAt e)
   unfolding lookAt
-  look e h = rw (le-ltb 65536 (lexerAt e .at) (h .below), le-ltb (lexerAt e .at) (lexerAt e .line) (h .lines))
+  look e h = rw (le-ltb 65536 (length text) short, le-ltb 65536 (lexerAt e .at) (h .below), le-ltb (lexerAt e .at) (lexerAt e .line) (h .lines))
 
-  ahead-by : (r : Next) (st : State) → let x = lexerAt (st .loc .end) in Placed x → Sound text x → L.next text x ≡ r → AheadOf text (aheadOf r st) (tokens text x)
-  unfolding aheadOf kind place lexemeOf
+  ahead-by : (r : Next) (st : State) → let x = lexerAt (unpacked (st .loc .end)) in Placed x → Sound text x → L.next text x ≡ r
+      → AheadOf text (aheadOf (found (st .loc .end) r) st) (tokens text x)
+  unfolding aheadOf found kind place lexemeOf
   ahead-by (N.On p s) st h q e =
-      let x = lexerAt (st .loc .end) in
+      let x = lexerAt (unpacked (st .loc .end)) in
       let i = next-inside text x s p e in
       let z = next-placed text x s p h short e in
-      let y : lexerAt (p .loc .end) ≡ s = ap lexerAt (next-ends text x s p e) ∙ lexer-span s (z .line-begun) in
-      rw (tokens-on text x s p e, y)
-      (on (record { coded = refl; placed = refl; spelled = spelled-at text p (omega (arith, i .1)) (omega (arith, i .2, i .3)) })
+      let a = start-small text x s p h short e in
+      let b = end-small text x s p h short e in
+      let y : lexerAt (unpacked (packed (p .loc .end))) ≡ s =
+      ap lexerAt (unpacked-packed (p .loc .end) b ∙ next-ends text x s p e) ∙ lexer-span s (z .line-begun) in
+      rw (tokens-on text x s p e, code-some (p .token), y)
+      (on (record { coded = refl; placed = loc-back (p .loc) a b; spelled = spelled-at text p (omega (arith, i .1)) (omega (arith, i .2, i .3)) })
       refl z (omega (arith, i .1, i .2)) (sym (unrecognized-on text x s p e) ∙ q))
-  ahead-by N.End st h q e = rw (tokens-end text (lexerAt (st .loc .end)) e) (over refl q)
-  ahead-by (N.Unrecognized p) st h q e = rw (tokens-unrecognized text (lexerAt (st .loc .end)) p e) (over refl q)
+  ahead-by N.End st h q e = rw (tokens-end text (lexerAt (unpacked (st .loc .end))) e) (over refl q)
+  ahead-by (N.Unrecognized p) st h q e = rw (tokens-unrecognized text (lexerAt (unpacked (st .loc .end))) p e) (over refl q)
 
-  pub advance-ahead : (st : State) → let x = lexerAt (st .loc .end) in Placed x → Sound text x → AheadOf text (advanced text st) (tokens text x)
-  unfolding advanced
-  advance-ahead st h q = rw (look (st .loc .end) h) (ahead-by (L.next text (lexerAt (st .loc .end))) st h q refl)
+  pub advance-ahead : (st : State) → let x = lexerAt (unpacked (st .loc .end)) in Placed x → Sound text x → AheadOf text (advanced text st) (tokens text x)
+  unfolding advanced foundAt
+  advance-ahead st h q =
+      let e = unpacked (st .loc .end) in
+      rw (look e h) (ahead-by (L.next text (lexerAt e)) st h q refl)
 
 -- fewer bytes are left than a list of the definitions has turns
 pub few-left : {text : List ℕ} {ts : List Lexeme} (st : State) → length text ≤ 65536 → AheadOf text st ts → bytesLeft text st < 65537
@@ -119,19 +129,13 @@ unfolding bytesLeft lexerAt
 few-left st short (over e q) = rw e (omega arith)
 few-left {text} st short (on h e x a q) = left (eqb (st .kind) 255)
   where
-    left : (b : Bool) → cond b 0 (suc (length text - st .loc .end .index)) < 65537
+    left : (b : Bool) → cond b 0 (suc (length text - unpacked (st .loc .end) .index)) < 65537
     left true = omega arith
     left false = omega arith
 
-moved-by : (r : Next) (st : State) → Moved st (aheadOf r st)
-unfolding aheadOf
-moved-by (N.On p s) st = record { last = refl; next = refl; owned = refl; waiting = refl }
-moved-by N.End st = record { last = refl; next = refl; owned = refl; waiting = refl }
-moved-by (N.Unrecognized q) st = record { last = refl; next = refl; owned = refl; waiting = refl }
-
 pub moved : (text : List ℕ) (st : State) → Moved st (advanced text st)
-unfolding advanced
-moved text st = moved-by (lookAt text (st .loc .end)) st
+unfolding advanced aheadOf
+moved text st = record { last = refl; next = refl; owned = refl; waiting = refl }
 
 -- ---- where both stand
 
@@ -154,7 +158,7 @@ pub record Frame : Type 0 where
 -- the forest f was read from the frame on, its trees' parent being p, into a table whose first record is node b; the numbers of nodes
 -- and comments stay small: at least i nodes more than those that the tokens left can have
 pub record At (text : List ℕ) (i b p : ℕ) (frame : Frame) (f : Forest) (st : State) (t u : List ℕ) (s : St) : Type 0 where
-  pub last : st .last ≡ lastOf s
+  pub last : unpackedLoc (st .last) ≡ lastOf s
   pub ahead : AheadOf text st (leftOf s)
   pub next : st .next ≡ frame .number + sizes f
   pub nodes : t ≡ lay (frame .number - b) (rowsOf f p (frame .number)) (frame .nodes)
@@ -197,7 +201,7 @@ regrown e h = rw e at h
 
 pub data Meant {A : Type 0} (Q : A → State → List ℕ → List ℕ → St → Type 0) : Out → Res A → Type 0 where
   went : {a : A} {st : State} {t u : List ℕ} {s : St} → Q a st t u s → Meant Q (done st t u) (ok a s)
-  halted : {e : ℕ} {l : LOC} → Meant Q (stop e l) (no e l)
+  halted : {e : ℕ} {l : Range} → Meant Q (stop e l) (no e (unpackedLoc l))
 
 module _ {A B : Type 0} {Q : A → State → List ℕ → List ℕ → St → Type 0} {R : B → State → List ℕ → List ℕ → St → Type 0} where
   pub bind-m : {o : Out} {r : Res A} {k : M} {f : A → P B} → Meant Q o r

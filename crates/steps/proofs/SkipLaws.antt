@@ -39,6 +39,7 @@ use Rattle.parser.specs.Steps.{
   skip-comments-discard,
   skip-trivia,
 }
+use Rattle.steps.specs.Packed.{unpackedLoc}
 use Rattle.steps.specs.Into.{
   put,
   advanced,
@@ -132,7 +133,7 @@ module _ (text : List ℕ) (short : length text ≤ 65536) (i b p : ℕ) (fr : F
   owned-more n (x ∷ c) tok = ap (λ (l : List (List ℕ)). commentRow n x ∷ l) (owned-more n c tok)
 
   -- the record that the code writes for the comment ahead
-  waiting-row : (st : State) (tok : Lexeme) → First text (st .kind) (st .loc) tok → row (cond (eqb (st .kind) 48) 32 33) 0 0 (st .loc) ≡ commentRow 0 tok
+  waiting-row : (st : State) (tok : Lexeme) → First text (st .kind) (st .loc) tok → row (cond (eqb (st .kind) 48) 32 33) 0 0 (unpackedLoc (st .loc)) ≡ commentRow 0 tok
   unfolding commentRow kind place is code
   waiting-row st (lexeme k w l) h = rw (h .coded, h .placed)
 
@@ -145,7 +146,7 @@ module _ (text : List ℕ) (short : length text ≤ 65536) (i b p : ℕ) (fr : F
       let n = st .owned + st .waiting in
       let xs = fr .owned ++ commentRowsOf f (fr .number) in
       record {
-        last = m .last ∙ a .placed;
+        last = ap unpackedLoc (m .last) ∙ a .placed;
         ahead = rw (← e) at (advance-ahead text short (waits st) x q);
         next = m .next ∙ h .next;
         nodes = h .nodes;

@@ -18,8 +18,10 @@ use Rattle.lexer.specs.declared.location.Lexer.{Lexer}
 use Rattle.lexer.specs.declared.location.LOC.{LOC}
 use Rattle.lexer.specs.Tokens.{Lexeme}
 use Rattle.ast.specs.Tree.{Forest}
+use Rattle.steps.specs.declared.packed.Range.{Range}
 use Rattle.steps.specs.declared.state.State.{State}
 use Rattle.parser.specs.Steps.{kind, place, St, pos, P, bind, peek, when, fail, refuse, next, want, start, here, taken}
+use Rattle.steps.specs.Packed.{unpacked, unpackedLoc}
 use Rattle.steps.specs.Into.{Out, done, refused, startAt, advanced, takeIn, expectIn}
 use Rattle.parser.proofs.KindLaws.{Tests, code-some, one-test}
 use Rattle.steps.proofs.Seen.{
@@ -44,21 +46,21 @@ use Rattle.steps.proofs.Seen.{
 
 -- ---- the token ahead
 
-pub none-ahead : {text : List ℕ} {k : ℕ} {l : LOC} {x : Lexer} → Ahead text k l x [] → eqb k 255 ≡ true
+pub none-ahead : {text : List ℕ} {k : ℕ} {l : Range} {x : Lexer} → Ahead text k l x [] → eqb k 255 ≡ true
 none-ahead (over e q) = eq-eqb _ _ e
 
-pub some-ahead : {text : List ℕ} {k : ℕ} {l : LOC} {x : Lexer} {t : Lexeme} {ts : List Lexeme} → Ahead text k l x (t ∷ ts) → eqb k 255 ≡ false
+pub some-ahead : {text : List ℕ} {k : ℕ} {l : Range} {x : Lexer} {t : Lexeme} {ts : List Lexeme} → Ahead text k l x (t ∷ ts) → eqb k 255 ≡ false
 some-ahead {t = t} (on h e x z q) = rw (h .coded) (code-some (kind t))
 
-pub first-ahead : {text : List ℕ} {k : ℕ} {l : LOC} {x : Lexer} {t : Lexeme} {ts : List Lexeme} → Ahead text k l x (t ∷ ts) → First text k l t
+pub first-ahead : {text : List ℕ} {k : ℕ} {l : Range} {x : Lexer} {t : Lexeme} {ts : List Lexeme} → Ahead text k l x (t ∷ ts) → First text k l t
 first-ahead (on h e x z q) = h
 
-pub sound-ahead : {text : List ℕ} {k : ℕ} {l : LOC} {x : Lexer} {ts : List Lexeme} → Ahead text k l x ts → Sound text x
+pub sound-ahead : {text : List ℕ} {k : ℕ} {l : Range} {x : Lexer} {ts : List Lexeme} → Ahead text k l x ts → Sound text x
 sound-ahead (over e q) = q
 sound-ahead (on h e x z q) = q
 
 -- a test of the code's kind is the test of the token's
-pub tested : {g : ℕ → Bool} {ks : List Token} {text : List ℕ} {k : ℕ} {l : LOC} {x : Lexer} (s : St) → Tests g ks → Ahead text k l x (leftOf s)
+pub tested : {g : ℕ → Bool} {ks : List Token} {text : List ℕ} {k : ℕ} {l : Range} {x : Lexer} (s : St) → Tests g ks → Ahead text k l x (leftOf s)
     → g k ≡ peek ks s
 unfolding peek
 tested {g = g} (pos l c []) h (over e q) = ap g e ∙ h .fails
@@ -82,8 +84,8 @@ pub record Wanted (ks : List Token) (text : List ℕ) (i b p : ℕ) (fr : Frame)
 pub refuse-m : {A : Type 0} {Q : A → State → List ℕ → List ℕ → St → Type 0} {text : List ℕ} {i b p : ℕ} {fr : Frame} {f : Forest} {st : State} {t u : List ℕ} (s : St)
     (e : ℕ) → At text i b p fr f st t u s → Meant Q (refused e st) (fail {A = A} e s)
 unfolding refused fail
-refuse-m (pos l c []) e h = rw (none-ahead (h .ahead), h .last) halted
-refuse-m (pos l c (t ∷ ts)) e h = rw (some-ahead (h .ahead), first-ahead (h .ahead) .placed) halted
+refuse-m (pos l c []) e h = rw (none-ahead (h .ahead), ← h .last) halted
+refuse-m (pos l c (t ∷ ts)) e h = rw (some-ahead (h .ahead), ← first-ahead (h .ahead) .placed) halted
 
 -- refuse at the token that was ahead of a state
 pub refuse-at-m : {A : Type 0} {Q : A → State → List ℕ → List ℕ → St → Type 0} {text : List ℕ} (e : ℕ) (st : State) (tok : Lexeme) (s : St)
@@ -91,7 +93,7 @@ pub refuse-at-m : {A : Type 0} {Q : A → State → List ℕ → List ℕ → St
 unfolding refused refuse
 refuse-at-m e st tok s h =
     let z : eqb (st .kind) 255 ≡ false = ap (λ (n : ℕ). eqb n 255) (h .coded) ∙ code-some (kind tok) in
-    rw (z, h .placed) halted
+    rw (z, ← h .placed) halted
 
 module _ (text : List ℕ) (short : length text ≤ 65536) {i b p : ℕ} {fr : Frame} {f : Forest} {st : State} {t u : List ℕ} where
   stepped : {l : LOC} {c ts : List Lexeme} {tok : Lexeme} → At text i b p fr f st t u (pos l c (tok ∷ ts)) → AheadOf text st (tok ∷ ts)
@@ -99,7 +101,7 @@ module _ (text : List ℕ) (short : length text ≤ 65536) {i b p : ℕ} {fr : F
   stepped h (on a e x z q) =
       let m = moved text st in
       record {
-        last = m .last ∙ a .placed;
+        last = ap unpackedLoc (m .last) ∙ a .placed;
         ahead = rw (← e) at (advance-ahead text short st x q);
         next = m .next ∙ h .next;
         nodes = h .nodes;
@@ -118,7 +120,7 @@ module _ (text : List ℕ) (short : length text ≤ 65536) {i b p : ℕ} {fr : F
 
   pub take-m : (s : St) → At text i b p fr f st t u s → Meant (Took text (suc (suc i)) b p fr f st) (takeIn text st t u) (next s)
   unfolding takeIn refused next
-  take-m (pos l c []) h = rw (none-ahead (h .ahead), h .last) halted
+  take-m (pos l c []) h = rw (none-ahead (h .ahead), ← h .last) halted
   take-m (pos l c (tok ∷ ts)) h = rw (some-ahead (h .ahead)) (went (record { at = step-at h; there = refl; first = first-ahead (h .ahead) }))
 
   pub step-m : (ks : List Token) (s : St) → peek ks s ≡ true → At text i b p fr f st t u s
@@ -179,7 +181,7 @@ module _ {B : Type 0} {R : B → State → List ℕ → List ℕ → St → Type
   taken-in (pos l c ts) f h = h
 
 pub start-at : {text : List ℕ} {i b p : ℕ} {fr : Frame} {f : Forest} {st : State} {t u : List ℕ} (s : St) → At text i b p fr f st t u s
-    → startAt st ≡ startOf s .start
+    → unpacked (startAt st) ≡ startOf s .start
 unfolding startAt
 start-at (pos l c []) h = rw (none-ahead (h .ahead)) (ap (λ (l : LOC). l .start) (h .last))
 start-at (pos l c (t ∷ ts)) h = rw (some-ahead (h .ahead)) (ap (λ (l : LOC). l .start) (first-ahead (h .ahead) .placed))

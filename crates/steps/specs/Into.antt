@@ -22,9 +22,12 @@ use Rattle.lexer.specs.Tokens as L
 use Rattle.ast.specs.Largest.{largest, bump}
 use Rattle.ast.specs.Records.{width, row, room}
 use Rattle.parser.specs.Definitions.{isId}
+use Rattle.steps.specs.declared.packed.Range.{Range}
+use Rattle.steps.specs.declared.Found.{Found}
 use Rattle.steps.specs.declared.state.State.{State}
 use Rattle.steps.specs.declared.state.Parsed.{Parsed}
 use Rattle.steps.specs.declared.state.Parsed.the-variants.{On, Refused}
+use Rattle.steps.specs.Packed.{packed, unpacked, unpackedLoc}
 
 -- what every reader is lent: the lexer's table, and a text that passed 20
 pub record Lent (lut text : List ℕ) : Type 0 where
@@ -38,7 +41,7 @@ noToken = 255
 -- the state and both tables afterwards; or document 01's number and a place
 pub data Out : Type 0 where
   done : State → List ℕ → List ℕ → Out
-  stop : ℕ → LOC → Out
+  stop : ℕ → Range → Out
 
 abbrev pub M : Type 0
 M = State → List ℕ → List ℕ → Out
@@ -103,13 +106,13 @@ opened st = record { kind = st .kind; loc = st .loc; last = st .last; next = bum
 
 -- the last token taken, as a node
 unfoldable pub leafIn : ℕ → ℕ → ℕ → M
-leafIn k b p st t u = done (opened st) (put (placeOf b (st .next)) (row k p 0 (st .last)) t) u
+leafIn k b p st t u = done (opened st) (put (placeOf b (st .next)) (row k p 0 (unpackedLoc (st .last))) t) u
 
 -- a node from a place to the end of the last token taken
-unfoldable pub putNode : ℕ → ℕ → ℕ → Span → ℕ → ℕ → State → List ℕ → List ℕ
-putNode n k f s b p st t = put (placeOf b n) (row k p f (record { start = s; end = st .last .end })) t
+unfoldable pub putNode : ℕ → ℕ → ℕ → ℕ → ℕ → ℕ → State → List ℕ → List ℕ
+putNode n k f s b p st t = put (placeOf b n) (row k p f (unpackedLoc (record { start = s; end = st .last .end }))) t
 
-unfoldable pub nodeIn : ℕ → ℕ → ℕ → Span → ℕ → ℕ → M
+unfoldable pub nodeIn : ℕ → ℕ → ℕ → ℕ → ℕ → ℕ → M
 nodeIn n k f s b p st t u = done st (putNode n k f s b p st t) u
 
 -- ---- steps
@@ -118,20 +121,29 @@ nodeIn n k f s b p st t u = done st (putNode n k f s b p st t) u
 unfoldable pub lexerAt : Span → Lexer
 lexerAt e = record { at = e .index; line = e .line - 1; origin = e .index - (e .column - 1) }
 
--- the token behind a place; none where the place is in no text
+-- the token behind a place; none where the text did not pass 20 or the place is in no text
 unfoldable pub lookAt : List ℕ → Span → Next
-lookAt t e = let s = lexerAt e in cond (ltb limit (s .at)) N.End (cond (ltb (s .at) (s .line)) N.End (L.next t s))
+lookAt t e =
+    let s = lexerAt e in
+    cond (ltb limit (length t)) N.End (cond (ltb limit (s .at)) N.End (cond (ltb (s .at) (s .line)) N.End (L.next t s)))
 
-unfoldable pub aheadOf : Next → State → State
-aheadOf (N.On p s) st =
-    record { kind = code (p .token); loc = p .loc; last = st .loc; next = st .next; owned = st .owned; waiting = st .waiting }
-aheadOf N.End st =
-    record { kind = noToken; loc = st .loc; last = st .loc; next = st .next; owned = st .owned; waiting = st .waiting }
-aheadOf (N.Unrecognized p) st =
-    record { kind = noToken; loc = st .loc; last = st .loc; next = st .next; owned = st .owned; waiting = st .waiting }
+-- the same in 64 bits
+unfoldable pub found : ℕ → Next → Found
+found e (N.On p s) = record { start = packed (p .loc .start); end = packed (p .loc .end); kind = code (p .token) }
+found e N.End = record { start = e; end = e; kind = noToken }
+found e (N.Unrecognized p) = record { start = e; end = e; kind = noToken }
+
+unfoldable pub foundAt : List ℕ → ℕ → Found
+foundAt t e = found e (lookAt t (unpacked e))
+
+-- the token that was ahead is taken; where none is found its place stays
+unfoldable pub aheadOf : Found → State → State
+aheadOf f st =
+    let l = cond (eqb (f .kind) noToken) (st .loc) (record { start = f .start; end = f .end }) in
+    record { kind = f .kind; loc = l; last = st .loc; next = st .next; owned = st .owned; waiting = st .waiting }
 
 unfoldable pub advanced : List ℕ → State → State
-advanced text st = aheadOf (lookAt text (st .loc .end)) st
+advanced text st = aheadOf (foundAt text (st .loc .end)) st
 
 unfoldable pub advanceIn : List ℕ → M
 advanceIn text st t u = done (advanced text st) t u
@@ -142,7 +154,7 @@ refused e st = cond (eqb (st .kind) noToken) (stop E.UnexpectedEOF (st .last)) (
 unfoldable pub refuseIn : ℕ → M
 refuseIn e st t u = refused e st
 
-unfoldable pub startAt : State → Span
+unfoldable pub startAt : State → ℕ
 startAt st = cond (eqb (st .kind) noToken) (st .last .start) (st .loc .start)
 
 unfoldable pub takeIn : List ℕ → M
@@ -154,7 +166,7 @@ expectIn text k e st t u = cond (eqb (st .kind) k) (takeIn text st t u) (refused
 -- the bytes behind the lexer, and one for the token ahead; none where no token is ahead. What takes a token makes them fall, so a loop has at most
 -- one turn more than bytes are left, and each below is its first turn and then itself (passed-is and comments-is in proofs/Bytes, loop-is in LoopForms)
 unfoldable pub bytesLeft : List ℕ → State → ℕ
-bytesLeft text st = cond (eqb (st .kind) noToken) 0 (suc (length text - st .loc .end .index))
+bytesLeft text st = cond (eqb (st .kind) noToken) 0 (suc (length text - unpacked (st .loc .end) .index))
 
 unfoldable pub isSeparator : ℕ → Bool
 isSeparator k = eqb k T.Comma || eqb k T.Semicolon
@@ -181,7 +193,7 @@ unfoldable pub waits : State → State
 waits st = record { kind = st .kind; loc = st .loc; last = st .last; next = st .next; owned = st .owned; waiting = bump (st .waiting) }
 
 unfoldable pub putWaiting : State → List ℕ → List ℕ
-putWaiting st u = put (st .owned + st .waiting) (row (cond (eqb (st .kind) T.LineComment) K.LineComment K.BlockComment) 0 0 (st .loc)) u
+putWaiting st u = put (st .owned + st .waiting) (row (cond (eqb (st .kind) T.LineComment) K.LineComment K.BlockComment) 0 0 (unpackedLoc (st .loc))) u
 
 unfoldable pub waitIn : M
 waitIn st t u = done (waits st) t (putWaiting st u)

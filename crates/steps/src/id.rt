@@ -4,7 +4,9 @@ ghost use Prim.Native.Nat.{_-_, _^_};
 ghost use lib.Dec.{ltb};
 ghost use Rattle.parser.specs.Definitions.{decimal, isId};
 ghost use Rattle.steps.specs.Into.{isIdAt};
-use lexer::location::LOC;
+ghost use Rattle.steps.specs.Packed.{unpackedLoc};
+use crate::packed;
+use crate::packed::Range;
 
 // The number of a digit.
 fn digit(byte: u8) -> u64
@@ -50,11 +52,11 @@ fn is_id(bytes: &[u8]) -> bool
 }
 
 // Whether the token at this place is an id.
-pub fn is_id_at(text: &[u8], loc: LOC) -> bool
-    ensures { λ r. ⌜ r ≡ isIdAt (now (text .entry)) loc ⌝ }
+pub fn is_id_at(text: &[u8], loc: Range) -> bool
+    ensures { λ r. ⌜ r ≡ isIdAt (now (text .entry)) (unpackedLoc loc) ⌝ }
 {
-    let start = loc.start.index as usize;
-    let end = loc.end.index as usize;
+    let start = packed::index_of(loc.start) as usize;
+    let end = packed::index_of(loc.end) as usize;
     if text.len() < end {
         return false;
     }

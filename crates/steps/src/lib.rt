@@ -1,15 +1,17 @@
-// What the readers above share: the parser by value and its steps (rico's parser/token.rs), the tokens ahead, records in a lent table, ids.
+// What the readers above share: the parser by value and its steps (rico's parser/token.rs), the tokens ahead, records in a lent table, places in 64 bits, ids.
 // Every step holds for any state and any table: none has to be well formed, and what does not fit is counted, not written.
 pub mod id;
+pub mod packed;
 pub mod state;
 pub mod table;
 
 ghost use mathlib.Core.Path.{_≡_};
 ghost use Prim.Native.Nat.{_-_};
-ghost use Rattle.steps.specs.Into.{Lent, lexerAt, lookAt, isSeparator, isComment, passes};
+ghost use Rattle.steps.specs.Into.{Lent, lexerAt, foundAt, isSeparator, isComment, passes};
+ghost use Rattle.steps.specs.Packed.{unpacked};
+use crate::state::NONE;
 use lexer::location::Lexer;
 use lexer::location::Next;
-use lexer::location::Span;
 
 // The difference, 0 where it would be below.
 fn less(a: u32, b: u32) -> u32
@@ -19,29 +21,54 @@ fn less(a: u32, b: u32) -> u32
 }
 
 // The lexer that stands at a place.
-fn lexer_at(place: Span) -> Lexer
-    ensures { λ r. ⌜ r ≡ lexerAt place ⌝ }
+fn lexer_at(place: u64) -> Lexer
+    ensures { λ r. ⌜ r ≡ lexerAt (unpacked place) ⌝ }
 {
+    let at = packed::index_of(place);
     Lexer {
-        at: place.index,
-        line: less(place.line, 1),
-        origin: less(place.index, less(place.column, 1)),
+        at,
+        line: less(packed::line_of(place), 1),
+        origin: less(at, less(packed::column_of(place), 1)),
     }
 }
 
+// A token: where it stands and its kind, NONE where there is none.
+pub struct Found {
+    pub start: u64,
+    pub end: u64,
+    pub kind: u32,
+}
+
 // The token behind a place; none where the place is in no text.
-pub fn look(lut: &[u8; 768], text: &[u8], place: Span) -> Next
+pub fn look(lut: &[u8; 768], text: &[u8], place: u64) -> Found
     requires { ⌜ Lent (now lut) (now text) ⌝ }
-    ensures { λ r. ⌜ r ≡ lookAt (now (text .entry)) place ⌝ }
+    ensures { λ r. ⌜ r ≡ foundAt (now (text .entry)) place ⌝ }
 {
+    let none = Found {
+        start: place,
+        end: place,
+        kind: NONE,
+    };
     let from = lexer_at(place);
     if lexer::LIMIT < from.at as usize {
-        return Next::End;
+        return none;
     }
     if from.at < from.line {
-        return Next::End;
+        return none;
     }
-    lexer::next_token(lut, text, from)
+    let next = lexer::next_token(lut, text, from);
+    match next {
+        Next::On(token, _) => {
+            let kind = token.token;
+            let loc = token.loc;
+            Found {
+                start: packed::pack(loc.start),
+                end: packed::pack(loc.end),
+                kind: kind.code(),
+            }
+        }
+        _ => none,
+    }
 }
 
 // Whether a kind is a separator; or a comment.

@@ -1,18 +1,17 @@
 // The parser by value, rico's Parser without its tree: its steps over tokens (parser/token.rs) and over records.
 ghost use mathlib.Core.Path.{_≡_};
 ghost use Rattle.steps.specs.Into.{Keeps, Lent, Puts, Still, advanced, aheadOf, refuseIn, startAt, takeIn, expectIn, passed, waitIn, skipCommentsIn, ownIn, opened, leafIn, placeOf, putNode};
+use crate::Found;
+use crate::packed::Range;
 use crate::table;
 use lexer::error;
-use lexer::location::LOC;
-use lexer::location::Next;
-use lexer::location::Span;
 
 // The lexer stands at the end of the token ahead.
 pub struct State {
     // where the token ahead stands; where none is left, the last one
-    pub loc: LOC,
+    pub loc: Range,
     // where the last token taken stands
-    pub last: LOC,
+    pub last: Range,
     // the number of the next node record
     pub next: u32,
     // how many comments have an owner
@@ -29,7 +28,7 @@ pub const NONE: u32 = 255;
 // What a reader leaves: the state behind what it read, or document 01's number and the token's place.
 pub enum Parsed {
     On(State),
-    Refused(u32, LOC),
+    Refused(u32, Range),
 }
 
 // The node that others are read under.
@@ -55,34 +54,24 @@ impl Parent {
 
 impl State {
     // The state with the token that was found ahead, the one ahead taken.
-    pub fn ahead(self, found: Next) -> State
+    pub fn ahead(self, found: Found) -> State
         ensures { λ r. ⌜ r ≡ aheadOf found self ⌝ }
     {
         let last = self.loc;
-        match found {
-            Next::On(token, _) => {
-                let kind = token.token;
-                let loc = token.loc;
-                State {
-                    kind: kind.code(),
-                    loc,
-                    last,
-                    next: self.next,
-                    owned: self.owned,
-                    waiting: self.waiting,
-                }
-            }
-            _ => {
-                let loc = self.loc;
-                State {
-                    kind: NONE,
-                    loc,
-                    last,
-                    next: self.next,
-                    owned: self.owned,
-                    waiting: self.waiting,
-                }
-            }
+        let mut loc = last;
+        if found.kind != NONE {
+            loc = Range {
+                start: found.start,
+                end: found.end,
+            };
+        }
+        State {
+            kind: found.kind,
+            loc,
+            last,
+            next: self.next,
+            owned: self.owned,
+            waiting: self.waiting,
         }
     }
 
@@ -110,7 +99,7 @@ impl State {
     }
 
     // start_pos: where the token ahead starts.
-    pub fn start(self) -> Span
+    pub fn start(self) -> u64
         ensures { λ r. ⌜ r ≡ startAt self ⌝ }
     {
         let loc = self.loc;
@@ -296,7 +285,7 @@ impl State {
         number: u32,
         kind: u32,
         flags: u32,
-        start: Span,
+        start: u64,
         parent: Parent,
     )
         ensures { λ _. ⌜ now (rest .exit) ≡ putNode number kind flags start (parent .base) (parent .node) self (now (rest .entry)) ⌝ }
@@ -309,7 +298,7 @@ impl State {
             kind,
             parent.node,
             flags,
-            LOC { start, end },
+            Range { start, end },
         );
     }
 }

@@ -4,8 +4,10 @@ ghost use Prim.Native.Nat.{_≤_};
 ghost use lib.ListN.{length};
 ghost use Rattle.ast.specs.Records.{row};
 ghost use Rattle.steps.specs.Into.{sum, put, putParent, restAt, wiped};
+ghost use Rattle.steps.specs.Packed.{unpackedLoc};
+use crate::packed;
+use crate::packed::Range;
 use ast::column;
-use lexer::location::LOC;
 
 // The sum of two counts; never past the largest number.
 pub fn sum(a: u32, b: u32) -> u32
@@ -19,8 +21,8 @@ pub fn sum(a: u32, b: u32) -> u32
 }
 
 // Record `index` of the table, if it holds that one.
-pub fn put_record(table: &mut [u32], index: usize, kind: u32, parent: u32, flags: u32, loc: LOC)
-    ensures { λ _. ⌜ now (table .exit) ≡ put index (row kind parent flags loc) (now (table .entry)) ⌝ }
+pub fn put_record(table: &mut [u32], index: usize, kind: u32, parent: u32, flags: u32, loc: Range)
+    ensures { λ _. ⌜ now (table .exit) ≡ put index (row kind parent flags (unpackedLoc loc)) (now (table .entry)) ⌝ }
 {
     if table.len() / ast::WIDTH <= index {
         return;
@@ -29,12 +31,12 @@ pub fn put_record(table: &mut [u32], index: usize, kind: u32, parent: u32, flags
     table[at] = kind;
     table[at + 1] = parent;
     table[at + 2] = flags;
-    table[at + 3] = loc.start.index;
-    table[at + 4] = loc.start.line;
-    table[at + 5] = loc.start.column;
-    table[at + 6] = loc.end.index;
-    table[at + 7] = loc.end.line;
-    table[at + 8] = loc.end.column;
+    table[at + 3] = packed::index_of(loc.start);
+    table[at + 4] = packed::line_of(loc.start);
+    table[at + 5] = packed::column_of(loc.start);
+    table[at + 6] = packed::index_of(loc.end);
+    table[at + 7] = packed::line_of(loc.end);
+    table[at + 8] = packed::column_of(loc.end);
 }
 
 // The parent of record `index`.

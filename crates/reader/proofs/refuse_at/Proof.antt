@@ -12,13 +12,15 @@ returns : tie.Need-returns
 unfolding refusingAt
 returns c =
     let e = c .before .before .before .before .before .before .before .before .end-rule .ensures in
-    let l = c .before .before .before .before .before .before .before .before .before .before .before .args .loc in
+    let i = c .before .before .before .before .before .before .before .before .before in
+    let b = i .index-of2 in
+    let a = i .before .index-of in
     c .before .before .before .before .refuse .ensures
-    ∙ ⊎-elim (λ w. rw (e, w .1))
-    (λ w. let z : l .end .index - l .start .index ≡ 0 = omega (arith, w .0 .left) in rw (e, w .1, z))
+    ∙ ⊎-elim (λ w. rw (← b .ensures, ← a .ensures, e, w .1))
+    (λ w. let z : b .result - a .result ≡ 0 = omega (arith, w .0 .left) in rw (← b .ensures, ← a .ensures, e, w .1, z))
     (c .before .before .before .before .before .before .before .if1 .came)
 
 pub refuse-at-spec : {M : Type 1} → statement M
 refuse-at-spec =
     tie.close
-    (tie.spec (λ c κs. search needs) (λ c. search needs) (λ c κs. search needs) (λ c. search needs) (λ c. search needs) returns)
+    (tie.spec (λ c κs. search needs) (λ c κs. search needs) (λ c κs. search needs) (λ c. search needs) (λ c κs. search needs) (λ c. search needs) (λ c. search needs) returns)

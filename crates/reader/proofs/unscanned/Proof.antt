@@ -12,7 +12,7 @@ returns c = (omega arith, λ t u. rw (c .enum-told .given .1))
 
 returns-2 : tie.Need-returns-2
 unfolding unscanned shows
-returns-2 c = (omega arith, λ t u. rw (c .before .before .before .parsed .given .1))
+returns-2 c = (omega arith, λ t u. rw (c .before .before .before .parsed .given .1) (c .index-of .ensures))
 
 pub unscanned-spec : {M : Type 1} → statement M
 unscanned-spec =
@@ -20,6 +20,7 @@ unscanned-spec =
     (tie.spec
     (λ c. search needs)
     (λ c. search needs)
+    (λ c κs. search needs)
     (λ c. search needs)
     returns
     returns-2)

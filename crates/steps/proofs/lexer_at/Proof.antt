@@ -6,7 +6,19 @@ use Rattle.steps.proofs.lexer_at.Tie as tie
 
 returns : tie.Need-returns
 unfolding lexerAt
-returns c = rw (c .less3 .ensures, c .before .less2 .ensures, c .before .before .less .ensures)
+returns c =
+    let d = c .before .before in
+    let l = d .before .before in
+    rw (c .less3 .ensures, c .before .less2 .ensures, d .column-of .ensures, d .before .less .ensures, l .line-of .ensures, l .before .index-of .ensures)
 
 pub lexer-at-spec : {M : Type 1} → statement M
-lexer-at-spec = tie.close (tie.spec (λ c κs. search needs) (λ c κs. search needs) (λ c κs. search needs) returns)
+lexer-at-spec =
+    tie.close
+    (tie.spec
+    (λ c κs. search needs)
+    (λ c κs. search needs)
+    (λ c κs. search needs)
+    (λ c κs. search needs)
+    (λ c κs. search needs)
+    (λ c κs. search needs)
+    returns)

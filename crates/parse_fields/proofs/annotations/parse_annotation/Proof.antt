@@ -29,19 +29,19 @@ returns-3 : tie.Need-returns-3
 returns-3 c = λ u. off _ _ _ (on _ _ _ (on _ _ _ (annotation-is _ _ _ _ _ _) _ _ _ _ (given (nameIn _ _ _ _) _ _ _ _ _ (c .before .before .before .before .before .before .before .before .before .before .before .before .before .before .before .before .before .«open» .ensures) (c .before .before .before .before .before .before .before .before .before .before .before .before .before .before .before .parse-name .ensures u)) (c .before .before .before .before .before .before .before .before .before .before .before .name .given .1)) _ _ _ _ (c .before .before .before .before .before .before .before .before .before .expect .ensures _ u) (c .before .before .before .before .before .before .before .equals .given .1)) _ _ _ _ _ (c .before .before .before .before .parse-leaf .ensures u) (c .enum-told3 .given .1) _ _
 
 advance-requires : tie.Need-advance-requires
-advance-requires c κs = c .before .before .before .before .before .before .before .before .before .before .before .before .before .before .before .before .before .before .before .before .before .before .before .before .before .before .before .before .before .pre
+advance-requires c κs = c .before .before .before .before .before .before .before .before .before .before .before .before .before .before .before .before .before .before .before .before .before .before .before .before .before .before .before .before .pre
 
 same-length-4 : tie.Need-same-length-4
-same-length-4 c = c .before .before .before .before .before .put-node .kept .1 .0 ∙ c .before .before .before .before .before .before .before .before .before .before .before .before .before .before .parse-leaf .kept .1 .1 .1 .1 .1 .0 ∙ c .before .before .before .before .before .before .before .before .before .before .before .before .before .before .before .before .before .before .before .before .before .before .before .before .before .parse-name .kept .1 .1 .1 .1 .1 .0
+same-length-4 c = c .before .before .before .before .before .put-node .kept .1 .0 ∙ c .before .before .before .before .before .before .before .before .before .before .before .before .before .parse-leaf .kept .1 .1 .1 .1 .1 .0 ∙ c .before .before .before .before .before .before .before .before .before .before .before .before .before .before .before .before .before .before .before .before .before .before .before .before .parse-name .kept .1 .1 .1 .1 .1 .0
 
 returns-4 : tie.Need-returns-4
-returns-4 c = λ u. ends-at _ _ _ _ _ (yes-by _ _ _ _ _ (kept _ _ _ (on _ _ _ (on _ _ _ (on _ _ _ (annotation-is _ _ _ _ _ _) _ _ _ _ (given (nameIn _ _ _ _) _ _ _ _ _ (c .before .before .before .before .before .before .before .before .before .before .before .before .before .before .before .before .before .before .before .before .before .before .before .before .before .before .before .«open» .ensures) (c .before .before .before .before .before .before .before .before .before .before .before .before .before .before .before .before .before .before .before .before .before .before .before .before .before .parse-name .ensures u)) (c .before .before .before .before .before .before .before .before .before .before .before .before .before .before .before .before .before .before .before .before .before .name .given .1)) _ _ _ _ (c .before .before .before .before .before .before .before .before .before .before .before .before .before .before .before .before .before .before .before .expect .ensures _ u) (c .before .before .before .before .before .before .before .before .before .before .before .before .before .before .before .before .before .equals .given .1)) _ _ _ _ (c .before .before .before .before .before .before .before .before .before .before .before .before .before .before .parse-leaf .ensures u) (c .before .before .before .before .before .before .before .before .before .before .value .given .1)) _ _ _ (noted _ _ _ _ _ _ _ _ _ _ (c .before .before .before .before .before .put-node .ensures)) ∙ one-separator-is _ _ _ _) (c .before .before .is-separator .ensures) (c .before .if1 .taken)) (c .advance .ensures)
+returns-4 c = λ u. ends-at _ _ _ _ _ (yes-by _ _ _ _ _ (kept _ _ _ (on _ _ _ (on _ _ _ (on _ _ _ (annotation-is _ _ _ _ _ _) _ _ _ _ (given (nameIn _ _ _ _) _ _ _ _ _ (c .before .before .before .before .before .before .before .before .before .before .before .before .before .before .before .before .before .before .before .before .before .before .before .before .before .before .«open» .ensures) (c .before .before .before .before .before .before .before .before .before .before .before .before .before .before .before .before .before .before .before .before .before .before .before .before .parse-name .ensures u)) (c .before .before .before .before .before .before .before .before .before .before .before .before .before .before .before .before .before .before .before .before .name .given .1)) _ _ _ _ (c .before .before .before .before .before .before .before .before .before .before .before .before .before .before .before .before .before .before .expect .ensures _ u) (c .before .before .before .before .before .before .before .before .before .before .before .before .before .before .before .before .equals .given .1)) _ _ _ _ (c .before .before .before .before .before .before .before .before .before .before .before .before .before .parse-leaf .ensures u) (c .before .before .before .before .before .before .before .before .before .value .given .1)) _ _ _ (noted _ _ _ _ _ _ _ _ _ _ (c .before .before .before .before .before .put-node .ensures)) ∙ one-separator-is _ _ _ _) (c .before .before .is-separator .ensures) (c .before .if1 .taken)) (c .advance .ensures)
 
 same-length-5 : tie.Need-same-length-5
-same-length-5 c = c .before .before .before .before .put-node .kept .1 .0 ∙ c .before .before .before .before .before .before .before .before .before .before .before .before .before .parse-leaf .kept .1 .1 .1 .1 .1 .0 ∙ c .before .before .before .before .before .before .before .before .before .before .before .before .before .before .before .before .before .before .before .before .before .before .before .before .parse-name .kept .1 .1 .1 .1 .1 .0
+same-length-5 c = c .before .before .before .before .put-node .kept .1 .0 ∙ c .before .before .before .before .before .before .before .before .before .before .before .before .parse-leaf .kept .1 .1 .1 .1 .1 .0 ∙ c .before .before .before .before .before .before .before .before .before .before .before .before .before .before .before .before .before .before .before .before .before .before .before .parse-name .kept .1 .1 .1 .1 .1 .0
 
 returns-5 : tie.Need-returns-5
-returns-5 c = λ u. ret _ _ _ _ (no-by _ _ _ _ _ (kept _ _ _ (on _ _ _ (on _ _ _ (on _ _ _ (annotation-is _ _ _ _ _ _) _ _ _ _ (given (nameIn _ _ _ _) _ _ _ _ _ (c .before .before .before .before .before .before .before .before .before .before .before .before .before .before .before .before .before .before .before .before .before .before .before .before .before .before .«open» .ensures) (c .before .before .before .before .before .before .before .before .before .before .before .before .before .before .before .before .before .before .before .before .before .before .before .before .parse-name .ensures u)) (c .before .before .before .before .before .before .before .before .before .before .before .before .before .before .before .before .before .before .before .before .name .given .1)) _ _ _ _ (c .before .before .before .before .before .before .before .before .before .before .before .before .before .before .before .before .before .before .expect .ensures _ u) (c .before .before .before .before .before .before .before .before .before .before .before .before .before .before .before .before .equals .given .1)) _ _ _ _ (c .before .before .before .before .before .before .before .before .before .before .before .before .before .parse-leaf .ensures u) (c .before .before .before .before .before .before .before .before .before .value .given .1)) _ _ _ (noted _ _ _ _ _ _ _ _ _ _ (c .before .before .before .before .put-node .ensures)) ∙ one-separator-is _ _ _ _) (c .before .is-separator .ensures) (c .if1 .left))
+returns-5 c = λ u. ret _ _ _ _ (no-by _ _ _ _ _ (kept _ _ _ (on _ _ _ (on _ _ _ (on _ _ _ (annotation-is _ _ _ _ _ _) _ _ _ _ (given (nameIn _ _ _ _) _ _ _ _ _ (c .before .before .before .before .before .before .before .before .before .before .before .before .before .before .before .before .before .before .before .before .before .before .before .before .before .«open» .ensures) (c .before .before .before .before .before .before .before .before .before .before .before .before .before .before .before .before .before .before .before .before .before .before .before .parse-name .ensures u)) (c .before .before .before .before .before .before .before .before .before .before .before .before .before .before .before .before .before .before .before .name .given .1)) _ _ _ _ (c .before .before .before .before .before .before .before .before .before .before .before .before .before .before .before .before .before .expect .ensures _ u) (c .before .before .before .before .before .before .before .before .before .before .before .before .before .before .before .equals .given .1)) _ _ _ _ (c .before .before .before .before .before .before .before .before .before .before .before .before .parse-leaf .ensures u) (c .before .before .before .before .before .before .before .before .value .given .1)) _ _ _ (noted _ _ _ _ _ _ _ _ _ _ (c .before .before .before .before .put-node .ensures)) ∙ one-separator-is _ _ _ _) (c .before .is-separator .ensures) (c .if1 .left))
 
 pub parse-annotation-spec : {M : Type 1} → statement M
 parse-annotation-spec =

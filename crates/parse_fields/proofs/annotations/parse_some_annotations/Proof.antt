@@ -15,10 +15,10 @@ returns : tie.Need-returns
 returns c = λ u. off _ _ _ (yes _ _ _ _ _ (annotations-is (c .before .before .before .before .before .before .before .before .before .before .args .text .now) (c .before .before .before .before .before .before .before .before .before .before .args .parent .base) (c .before .before .before .before .before .before .before .before .before .before .args .parent .node) (c .before .before .before .before .before .before .before .before .before .before .args .st) (c .before .before .before .before .before .before .before .before .before .before .args .rest .now) u) (c .before .before .before .before .before .before .before .before .before .before .pre .1)) _ _ _ _ _ (given (annotationListIn _ _ _) _ _ _ _ _ (c .before .before .before .before .before .before .advance .ensures ∙ ap (advanced _) (c .before .before .before .before .before .before .before .«open» .ensures)) (c .before .before .before .before .parse-annotation-list .ensures u)) (c .enum-told .given .1) _ _
 
 same-length-2 : tie.Need-same-length-2
-same-length-2 c = c .before .before .put-node .kept .1 .0 ∙ c .before .before .before .before .before .before .before .before .before .before .before .parse-annotation-list .kept .1 .1 .1 .1 .0
+same-length-2 c = c .before .before .put-node .kept .1 .0 ∙ c .before .before .before .before .before .before .before .before .before .before .parse-annotation-list .kept .1 .1 .1 .1 .0
 
 returns-2 : tie.Need-returns-2
-returns-2 c = λ u. node _ _ _ _ _ _ _ _ _ _ _ (on _ _ _ (yes _ _ _ _ _ (annotations-is (c .before .before .before .before .before .before .before .before .before .before .before .before .before .before .before .before .before .args .text .now) (c .before .before .before .before .before .before .before .before .before .before .before .before .before .before .before .before .before .args .parent .base) (c .before .before .before .before .before .before .before .before .before .before .before .before .before .before .before .before .before .args .parent .node) (c .before .before .before .before .before .before .before .before .before .before .before .before .before .before .before .before .before .args .st) (c .before .before .before .before .before .before .before .before .before .before .before .before .before .before .before .before .before .args .rest .now) u) (c .before .before .before .before .before .before .before .before .before .before .before .before .before .before .before .before .before .pre .1)) _ _ _ _ (given (annotationListIn _ _ _) _ _ _ _ _ (c .before .before .before .before .before .before .before .before .before .before .before .before .before .advance .ensures ∙ ap (advanced _) (c .before .before .before .before .before .before .before .before .before .before .before .before .before .before .«open» .ensures)) (c .before .before .before .before .before .before .before .before .before .before .before .parse-annotation-list .ensures u)) (c .before .before .before .before .before .before .before .read .given .1)) (c .before .before .put-node .ensures)
+returns-2 c = λ u. node _ _ _ _ _ _ _ _ _ _ _ (on _ _ _ (yes _ _ _ _ _ (annotations-is (c .before .before .before .before .before .before .before .before .before .before .before .before .before .before .before .before .args .text .now) (c .before .before .before .before .before .before .before .before .before .before .before .before .before .before .before .before .args .parent .base) (c .before .before .before .before .before .before .before .before .before .before .before .before .before .before .before .before .args .parent .node) (c .before .before .before .before .before .before .before .before .before .before .before .before .before .before .before .before .args .st) (c .before .before .before .before .before .before .before .before .before .before .before .before .before .before .before .before .args .rest .now) u) (c .before .before .before .before .before .before .before .before .before .before .before .before .before .before .before .before .pre .1)) _ _ _ _ (given (annotationListIn _ _ _) _ _ _ _ _ (c .before .before .before .before .before .before .before .before .before .before .before .before .advance .ensures ∙ ap (advanced _) (c .before .before .before .before .before .before .before .before .before .before .before .before .before .«open» .ensures)) (c .before .before .before .before .before .before .before .before .before .before .parse-annotation-list .ensures u)) (c .before .before .before .before .before .before .read .given .1)) (c .before .before .put-node .ensures)
 
 pub parse-some-annotations-spec : {M : Type 1} → statement M
 parse-some-annotations-spec =

@@ -41,13 +41,13 @@ returns-3 : tie.Need-returns-3
 returns-3 c = off _ _ _ (on _ _ _ (on _ _ _ (kept _ _ _ (function-is _ _ _ _ _ _) _ _ _ (given (ownIn _) _ _ _ _ _ (c .before .before .before .before .before .before .before .before .before .before .before .before .before .before .before .before .before .before .before .before .before .before .before .before .before .before .before .before .before .before .«open» .ensures) (c .before .before .before .before .before .before .before .before .before .before .before .before .before .before .before .before .before .before .before .before .before .before .before .before .before .before .before .before .own .ensures _))) _ _ _ _ (c .before .before .before .before .before .before .before .before .before .before .before .before .before .before .before .before .before .before .before .before .before .before .before .before .parse-function-head .ensures _) (c .before .before .before .before .before .before .before .before .before .before .before .before .before .before .before .before .before .before .before .before .head .given .1)) _ _ _ _ (c .before .before .before .before .before .before .before .before .before .before .before .before .before .before .before .before .parse-fields .ensures) (c .before .before .before .before .before .before .before .before .before .before .read .given .1)) _ _ _ _ _ (c .before .before .before .before .before .before .parse-function-tail .ensures) (c .enum-told3 .given .1) _ _
 
 same-length-7 : tie.Need-same-length-7
-same-length-7 c = c .before .before .put-node .kept .1 .0 ∙ c .before .before .before .before .before .before .before .before .before .before .before .before .before .before .before .before .parse-function-tail .kept .1 .1 .1 .1 .0 ∙ c .before .before .before .before .before .before .before .before .before .before .before .before .before .before .before .before .before .before .before .before .before .before .before .before .before .before .parse-fields .kept .1 .1 .1 .1 .1 .0 ∙ c .before .before .before .before .before .before .before .before .before .before .before .before .before .before .before .before .before .before .before .before .before .before .before .before .before .before .before .before .before .before .before .before .before .before .parse-function-head .kept .1 .1 .1 .1 .0
+same-length-7 c = c .before .before .put-node .kept .1 .0 ∙ c .before .before .before .before .before .before .before .before .before .before .before .before .before .before .before .parse-function-tail .kept .1 .1 .1 .1 .0 ∙ c .before .before .before .before .before .before .before .before .before .before .before .before .before .before .before .before .before .before .before .before .before .before .before .before .before .parse-fields .kept .1 .1 .1 .1 .1 .0 ∙ c .before .before .before .before .before .before .before .before .before .before .before .before .before .before .before .before .before .before .before .before .before .before .before .before .before .before .before .before .before .before .before .before .before .parse-function-head .kept .1 .1 .1 .1 .0
 
 same-length-8 : tie.Need-same-length-8
-same-length-8 c = c .before .before .before .before .before .before .before .before .before .before .before .before .before .before .before .before .parse-function-tail .kept .1 .1 .1 .1 .1 .0 ∙ c .before .before .before .before .before .before .before .before .before .before .before .before .before .before .before .before .before .before .before .before .before .before .before .before .before .before .parse-fields .kept .1 .1 .1 .1 .1 .1 .0 ∙ c .before .before .before .before .before .before .before .before .before .before .before .before .before .before .before .before .before .before .before .before .before .before .before .before .before .before .before .before .before .before .before .before .before .before .before .before .before .before .own .kept .1 .1 .0
+same-length-8 c = c .before .before .before .before .before .before .before .before .before .before .before .before .before .before .before .parse-function-tail .kept .1 .1 .1 .1 .1 .0 ∙ c .before .before .before .before .before .before .before .before .before .before .before .before .before .before .before .before .before .before .before .before .before .before .before .before .before .parse-fields .kept .1 .1 .1 .1 .1 .1 .0 ∙ c .before .before .before .before .before .before .before .before .before .before .before .before .before .before .before .before .before .before .before .before .before .before .before .before .before .before .before .before .before .before .before .before .before .before .before .before .before .own .kept .1 .1 .0
 
 returns-4 : tie.Need-returns-4
-returns-4 c = node-by _ _ _ _ _ _ _ _ _ _ _ _ _ (on _ _ _ (on _ _ _ (on _ _ _ (kept _ _ _ (function-is _ _ _ _ _ _) _ _ _ (given (ownIn _) _ _ _ _ _ (c .before .before .before .before .before .before .before .before .before .before .before .before .before .before .before .before .before .before .before .before .before .before .before .before .before .before .before .before .before .before .before .before .before .before .before .before .before .before .before .before .«open» .ensures) (c .before .before .before .before .before .before .before .before .before .before .before .before .before .before .before .before .before .before .before .before .before .before .before .before .before .before .before .before .before .before .before .before .before .before .before .before .before .before .own .ensures _))) _ _ _ _ (c .before .before .before .before .before .before .before .before .before .before .before .before .before .before .before .before .before .before .before .before .before .before .before .before .before .before .before .before .before .before .before .before .before .before .parse-function-head .ensures _) (c .before .before .before .before .before .before .before .before .before .before .before .before .before .before .before .before .before .before .before .before .before .before .before .before .before .before .before .before .before .before .head .given .1)) _ _ _ _ (c .before .before .before .before .before .before .before .before .before .before .before .before .before .before .before .before .before .before .before .before .before .before .before .before .before .before .parse-fields .ensures) (c .before .before .before .before .before .before .before .before .before .before .before .before .before .before .before .before .before .before .before .before .read .given .1)) _ _ _ _ (c .before .before .before .before .before .before .before .before .before .before .before .before .before .before .before .before .parse-function-tail .ensures) (c .before .before .before .before .before .before .before .before .before .before .tail .given .1)) (c .before .before .put-node .ensures) (c .before .before .before .before .before .before .sum .ensures ∙ ap₂ sum (c .before .before .before .before .before .before .before .before .flag-if .ensures) (c .before .before .before .before .before .before .before .flag-if2 .ensures)) refl
+returns-4 c = node-by _ _ _ _ _ _ _ _ _ _ _ _ _ (on _ _ _ (on _ _ _ (on _ _ _ (kept _ _ _ (function-is _ _ _ _ _ _) _ _ _ (given (ownIn _) _ _ _ _ _ (c .before .before .before .before .before .before .before .before .before .before .before .before .before .before .before .before .before .before .before .before .before .before .before .before .before .before .before .before .before .before .before .before .before .before .before .before .before .before .before .«open» .ensures) (c .before .before .before .before .before .before .before .before .before .before .before .before .before .before .before .before .before .before .before .before .before .before .before .before .before .before .before .before .before .before .before .before .before .before .before .before .before .own .ensures _))) _ _ _ _ (c .before .before .before .before .before .before .before .before .before .before .before .before .before .before .before .before .before .before .before .before .before .before .before .before .before .before .before .before .before .before .before .before .before .parse-function-head .ensures _) (c .before .before .before .before .before .before .before .before .before .before .before .before .before .before .before .before .before .before .before .before .before .before .before .before .before .before .before .before .before .head .given .1)) _ _ _ _ (c .before .before .before .before .before .before .before .before .before .before .before .before .before .before .before .before .before .before .before .before .before .before .before .before .before .parse-fields .ensures) (c .before .before .before .before .before .before .before .before .before .before .before .before .before .before .before .before .before .before .before .read .given .1)) _ _ _ _ (c .before .before .before .before .before .before .before .before .before .before .before .before .before .before .before .parse-function-tail .ensures) (c .before .before .before .before .before .before .before .before .before .tail .given .1)) (c .before .before .put-node .ensures) (c .before .before .before .before .before .sum .ensures ∙ ap₂ sum (c .before .before .before .before .before .before .before .flag-if .ensures) (c .before .before .before .before .before .before .flag-if2 .ensures)) refl
 
 pub parse-function-spec : {M : Type 1} → statement M
 parse-function-spec =

@@ -85,7 +85,7 @@ module _ (t : ℕ) where
   parse-complex-type-returns-3 c = λ u. off _ _ _ (on _ _ _ (on _ _ _ (complex-is _ _ _ _ _ _ _ _) _ _ _ _ (given (expectIn _ 38 2) _ _ _ _ _ (c .before .before .before .before .before .before .before .before .before .before .before .before .before .before .«open» .ensures) (c .before .before .before .before .before .before .before .before .before .before .before .before .before .expect .ensures _ _)) (c .before .before .before .before .before .before .before .before .before .before .before .opened .given .1)) _ _ _ _ (c .before .before .before .before .before .before .before .before .parse-contained .ensures _) (c .before .before .before .before .read .given .1)) _ _ _ _ _ (c .before .before .expect2 .ensures _ _) (c .enum-told3 .given .1) _ _
 
   parse-complex-type-returns-4 : parse-complex-type-lts.Need-returns-4 (parse-complex-type-calls t) (parse-complex-type-at t) parse-complex-type.Post
-  parse-complex-type-returns-4 c = λ u. node _ _ _ _ _ _ _ _ _ _ _ (on _ _ _ (on _ _ _ (on _ _ _ (complex-is _ _ _ _ _ _ _ _) _ _ _ _ (given (expectIn _ 38 2) _ _ _ _ _ (c .before .before .before .before .before .before .before .before .before .before .before .before .before .before .before .before .before .before .before .before .before .«open» .ensures) (c .before .before .before .before .before .before .before .before .before .before .before .before .before .before .before .before .before .before .before .before .expect .ensures _ _)) (c .before .before .before .before .before .before .before .before .before .before .before .before .before .before .before .before .before .before .opened .given .1)) _ _ _ _ (c .before .before .before .before .before .before .before .before .before .before .before .before .before .before .before .parse-contained .ensures _) (c .before .before .before .before .before .before .before .before .before .before .before .read .given .1)) _ _ _ _ (c .before .before .before .before .before .before .before .before .before .expect2 .ensures _ _) (c .before .before .before .before .before .before .before .closed .given .1)) (c .before .before .put-node .ensures)
+  parse-complex-type-returns-4 c = λ u. node _ _ _ _ _ _ _ _ _ _ _ (on _ _ _ (on _ _ _ (on _ _ _ (complex-is _ _ _ _ _ _ _ _) _ _ _ _ (given (expectIn _ 38 2) _ _ _ _ _ (c .before .before .before .before .before .before .before .before .before .before .before .before .before .before .before .before .before .before .before .before .«open» .ensures) (c .before .before .before .before .before .before .before .before .before .before .before .before .before .before .before .before .before .before .before .expect .ensures _ _)) (c .before .before .before .before .before .before .before .before .before .before .before .before .before .before .before .before .before .opened .given .1)) _ _ _ _ (c .before .before .before .before .before .before .before .before .before .before .before .before .before .before .parse-contained .ensures _) (c .before .before .before .before .before .before .before .before .before .before .read .given .1)) _ _ _ _ (c .before .before .before .before .before .before .before .before .expect2 .ensures _ _) (c .before .before .before .before .before .before .closed .given .1)) (c .before .before .put-node .ensures)
 
   parse-contained-parse-type-requires : parse-contained-lts.Need-parse-type-requires (parse-contained-calls t) (parse-contained-at t) parse-contained.Post
   parse-contained-parse-type-requires c κs = (omega (arith, c .before .before .before .pre .0), c .before .before .before .pre .1)

@@ -178,7 +178,7 @@ module _ (t : ℕ) where
   parse-list-value-returns c = λ u. off _ _ _ (list-is _ _ _ _ _ _ _) _ _ _ _ _ (given (elementsIn _ _) _ _ _ _ _ (c .before .before .before .before .before .before .«open» .ensures) (c .before .before .before .before .parse-elements .ensures _)) (c .enum-told .given .1) _ _
 
   parse-list-value-returns-2 : parse-list-value-lts.Need-returns-2 (parse-list-value-calls t) (parse-list-value-at t) parse-list-value.Post
-  parse-list-value-returns-2 c = λ u. node _ _ _ _ _ _ _ _ _ _ _ (on _ _ _ (list-is _ _ _ _ _ _ _) _ _ _ _ (given (elementsIn _ _) _ _ _ _ _ (c .before .before .before .before .before .before .before .before .before .before .before .before .before .«open» .ensures) (c .before .before .before .before .before .before .before .before .before .before .before .parse-elements .ensures _)) (c .before .before .before .before .before .before .before .read .given .1)) (c .before .before .put-node .ensures)
+  parse-list-value-returns-2 c = λ u. node _ _ _ _ _ _ _ _ _ _ _ (on _ _ _ (list-is _ _ _ _ _ _ _) _ _ _ _ (given (elementsIn _ _) _ _ _ _ _ (c .before .before .before .before .before .before .before .before .before .before .before .before .«open» .ensures) (c .before .before .before .before .before .before .before .before .before .before .parse-elements .ensures _)) (c .before .before .before .before .before .before .read .given .1)) (c .before .before .put-node .ensures)
 
   parse-map-value-parse-properties-requires : parse-map-value-lts.Need-parse-properties-requires (parse-map-value-calls t) (parse-map-value-at t) parse-map-value.Post
   parse-map-value-parse-properties-requires c κs = (omega (arith, c .before .before .before .before .pre .0, opened-by (c .before .before .before .before .args .text .now) _ _ (c .before .«open» .ensures)), c .before .before .before .before .pre .1)
@@ -187,7 +187,7 @@ module _ (t : ℕ) where
   parse-map-value-returns c = λ u. off _ _ _ (map-is _ _ _ _ _ _ _) _ _ _ _ _ (given (propertiesIn _ _) _ _ _ _ _ (c .before .before .before .before .before .before .«open» .ensures) (c .before .before .before .before .parse-properties .ensures _)) (c .enum-told .given .1) _ _
 
   parse-map-value-returns-2 : parse-map-value-lts.Need-returns-2 (parse-map-value-calls t) (parse-map-value-at t) parse-map-value.Post
-  parse-map-value-returns-2 c = λ u. node _ _ _ _ _ _ _ _ _ _ _ (on _ _ _ (map-is _ _ _ _ _ _ _) _ _ _ _ (given (propertiesIn _ _) _ _ _ _ _ (c .before .before .before .before .before .before .before .before .before .before .before .before .before .«open» .ensures) (c .before .before .before .before .before .before .before .before .before .before .before .parse-properties .ensures _)) (c .before .before .before .before .before .before .before .read .given .1)) (c .before .before .put-node .ensures)
+  parse-map-value-returns-2 c = λ u. node _ _ _ _ _ _ _ _ _ _ _ (on _ _ _ (map-is _ _ _ _ _ _ _) _ _ _ _ (given (propertiesIn _ _) _ _ _ _ _ (c .before .before .before .before .before .before .before .before .before .before .before .before .«open» .ensures) (c .before .before .before .before .before .before .before .before .before .before .parse-properties .ensures _)) (c .before .before .before .before .before .before .read .given .1)) (c .before .before .put-node .ensures)
 
   parse-properties-loop-holds : parse-properties-lts.Need-loop-holds (parse-properties-calls t) (parse-properties-at t) parse-properties.Post parse-properties-Inv-loop parse-properties-μ-loop
   parse-properties-loop-holds c = (λ u. refl, refl, omega arith)

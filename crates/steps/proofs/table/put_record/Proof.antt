@@ -10,7 +10,11 @@ returns : tie.Need-returns
 returns c = put-off _ _ _ (c .if1 .taken)
 
 returns-2 : tie.Need-returns-2
-returns-2 c = put-on _ _ _ _ _ _ (c .if1 .left)
+returns-2 c =
+    let s = c .before .before .before in
+    let l = s .before .before .before in
+    rw (c .column-of2 .ensures, c .before .line-of2 .ensures, c .before .before .index-of2 .ensures, s .column-of .ensures, s .before .line-of .ensures, s .before .before .index-of .ensures)
+    (put-on _ _ _ _ _ _ (l .if1 .left))
 
 pub put-record-spec : {M : Type 1} → statement M
 put-record-spec =
@@ -26,21 +30,27 @@ put-record-spec =
     (λ c. search needs)
     (λ c. search needs)
     (λ c. simp length-set (omega arith))
+    (λ c κs. search needs)
     (λ c. search needs)
     (λ c. search needs)
     (λ c. simp length-set (omega arith))
+    (λ c κs. search needs)
     (λ c. search needs)
     (λ c. search needs)
     (λ c. simp length-set (omega arith))
+    (λ c κs. search needs)
     (λ c. search needs)
     (λ c. search needs)
     (λ c. simp length-set (omega arith))
+    (λ c κs. search needs)
     (λ c. search needs)
     (λ c. search needs)
     (λ c. simp length-set (omega arith))
+    (λ c κs. search needs)
     (λ c. search needs)
     (λ c. search needs)
     (λ c. simp length-set (omega arith))
+    (λ c κs. search needs)
     (λ c. search needs)
     (λ c. search needs)
     (λ c. simp length-set (omega arith))
