@@ -4,7 +4,6 @@ pub mod Tree
 pub mod Records
 pub mod Lists
 pub mod Drop
-pub mod Numbered
 pub mod Largest
 pub mod Column
 pub mod Move

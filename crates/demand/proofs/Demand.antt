@@ -1,18 +1,16 @@
 -- DEMAND 3 holds: `demand-3` proves the record of specs/Demand.
---     print-fixed    the print of an accepted, numbered text is accepted, has the same definitions, and is its own print
---     print-alike    two numbered texts print alike exactly when their definitions agree
+--     print-fixed    the print of an accepted text is accepted, has the same definitions, and is its own print
+--     print-alike    two texts print alike exactly when their definitions agree
 --     demand-3       all of it, for every text, indent and list of calls
 use mathlib.Core.Path.{_≡_, refl, sym, ap, _∙_}
 use mathlib.Core.List.{List, []}
 use Prim.Native.Nat.{ℕ}
 use Rattle.token.specs.Breaks.{Bytes}
 use Rattle.lexer.specs.Outcome as O
-use Rattle.lexer.specs.Limit.{limit}
 use Rattle.lexer.specs.Location.{opening}
 use Rattle.lexer.specs.Tokens.{tokens}
 use Rattle.ast.specs.Ast.{Definition}
-use Rattle.ast.specs.Lists.{maps, All}
-use Rattle.ast.specs.Numbered.{Numbered}
+use Rattle.ast.specs.Lists.{maps}
 use Rattle.ast.specs.Drop.{dropParams}
 use Rattle.ast.proofs.Forget.{nowhere, bares, forget}
 use Rattle.ast.proofs.Drops.{drop-forget, drop-twice}
@@ -37,7 +35,7 @@ printed-same indent xs ds e =
 pub print-fixed : (indent : ℕ) (t : List ℕ) (ds : List Definition) → Premise indent t ds → Fixed indent ds
 print-fixed indent t ds h =
     let b = accepts-reads indent t ds (h .accepted) in
-    let a = print-again t (h .bytes) ds (b .reads) (h .numbered) indent (h .fits) in
+    let a = print-again t (h .bytes) ds (b .reads) indent (h .fits) in
     record {
       definitions = a .found;
       accepted = reads-accepts indent (printed indent ds) (a .found) (a .taken) (b .narrow);
@@ -45,14 +43,13 @@ print-fixed indent t ds h =
       same-bytes = printed-same indent (a .found) ds (a .same-tree);
     }
 
-module _ (indent : ℕ) (t u : List ℕ) (ds es : List Definition) (bt : Bytes t) (bu : Bytes u) (rt : outcome t ≡ O.accepted ds) (ru : outcome u ≡ O.accepted es)
-    (nt : All Numbered ds) (nu : All Numbered es) where
+module _ (indent : ℕ) (t u : List ℕ) (ds es : List Definition) (bt : Bytes t) (bu : Bytes u) (rt : outcome t ≡ O.accepted ds) (ru : outcome u ≡ O.accepted es) where
   from-print : printed indent ds ≡ printed indent es → forget (maps dropParams ds) ≡ forget (maps dropParams es)
   unfolding results
   from-print e =
       ap results
-      (sym (print-reads t bt ds rt nt indent) ∙ ap (λ (p : List ℕ). parseDocument (pos nowhere [] (bares (tokens p opening)))) e
-      ∙ print-reads u bu es ru nu indent)
+      (sym (print-reads t bt ds rt indent) ∙ ap (λ (p : List ℕ). parseDocument (pos nowhere [] (bares (tokens p opening)))) e
+      ∙ print-reads u bu es ru indent)
 
   to-print : forget (maps dropParams ds) ≡ forget (maps dropParams es) → printed indent ds ≡ printed indent es
   to-print e = sym (printed-same indent (maps dropParams es) ds (sym e)) ∙ print-drop indent es
@@ -61,7 +58,7 @@ module _ (indent : ℕ) (t u : List ℕ) (ds es : List Definition) (bt : Bytes t
   print-alike =
       record {
         from-print = λ e. agree-of-same ds es (from-print e);
-        to-print = λ a. to-print (same-of-agree (well-read t bt ds rt nt) (well-read u bu es ru nu) a);
+        to-print = λ a. to-print (same-of-agree (well-read t bt ds rt) (well-read u bu es ru) a);
       }
 
 pub demand-3 : Demand3

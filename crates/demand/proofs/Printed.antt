@@ -1,4 +1,4 @@
--- The print of a text that is accepted and numbered: it passes 20 to 22, and its tokens, without their places, read as the definitions that were printed.
+-- The print of a text that is accepted: it passes 20 to 22, and its tokens, without their places, read as the definitions that were printed.
 --     taken-means    what acceptance says of the text
 --     well-read      its definitions are well formed
 --     print-fine     its print passes 20 to 22
@@ -28,9 +28,8 @@ use Rattle.ast.proofs.Forget.{nowhere, bares, forget}
 use Rattle.parser.specs.Steps.{St, pos, Res, ok, no}
 use Rattle.parser.specs.Definitions.{parseDocument}
 use Rattle.parser.specs.Read.{parsed, answered, outcomeBy, outcome}
-use Rattle.ast.specs.Numbered.{Numbered}
 use Rattle.parser.proofs.Wf.{WfDefinition, most}
-use Rattle.parser.proofs.Sure.{Some, Read, good, final, sure-ok, both, document-s}
+use Rattle.parser.proofs.Sure.{Some, good, final, sure-ok, document-s}
 use Rattle.parser.proofs.Same.{moveS, moveR, bareR}
 use Rattle.parser.proofs.Ended.{Far, parse-same}
 use Rattle.writer.specs.Print.{pieces, printed}
@@ -77,32 +76,32 @@ abbrev Anywhere : LOC → Type 0
 Anywhere l = Unit {0}
 
 module _ (t : List ℕ) (b : Bytes t) (ds : List Definition) (e : outcome t ≡ accepted ds) where
-  read-some : Some (Read Good) most ds
+  read-some : Some (WfDefinition Good) most ds
   unfolding parsed
   read-some =
       let k = taken-means t ds e in
       sure-ok Good Anywhere (rw (k .reads) at (document-s Good Anywhere (good {l = between opening opening} anil (good-tokens t b (k .fine)) tt)))
 
-  pub well-read : All Numbered ds → All (WfDefinition Good) ds
-  well-read n = both (read-some .each) n
+  pub well-read : All (WfDefinition Good) ds
+  well-read = read-some .each
 
-  pub print-fine : All Numbered ds → (indent : ℕ) → length (printed indent ds) ≤ 65536 → checked (printed indent ds) ≡ accepted []
+  pub print-fine : (indent : ℕ) → length (printed indent ds) ≤ 65536 → checked (printed indent ds) ≡ accepted []
   unfolding printed
-  print-fine n indent h = fine-print (pieces-apart indent (well-read n)) h
+  print-fine indent h = fine-print (pieces-apart indent well-read) h
 
-  pub print-reads : All Numbered ds → (indent : ℕ) →
+  pub print-reads : (indent : ℕ) →
       parseDocument (pos nowhere [] (bares (tokens (printed indent ds) opening))) ≡ ok (forget (maps dropParams ds)) (pos nowhere [] [])
   unfolding printed
-  print-reads n indent = rw (lexes (pieces indent ds) (pieces-apart indent (well-read n))) (document-rt Good indent (well-read n) (read-some .few))
+  print-reads indent = rw (lexes (pieces indent ds) (pieces-apart indent well-read)) (document-rt Good indent well-read (read-some .few))
 
-  print-last : All Numbered ds → (indent : ℕ) → Far (final (between opening opening) (tokens (printed indent ds) opening))
+  print-last : (indent : ℕ) → Far (final (between opening opening) (tokens (printed indent ds) opening))
   unfolding tokens opening between spanOf printed
-  print-last n indent =
-      print-far indent ds (cuts (printed indent ds)) opening (between opening opening) refl (lexes (pieces indent ds) (pieces-apart indent (well-read n)))
+  print-last indent =
+      print-far indent ds (cuts (printed indent ds)) opening (between opening opening) refl (lexes (pieces indent ds) (pieces-apart indent well-read))
 
-  pub print-parsed : All Numbered ds → (indent : ℕ) → bareR forget (parsed (printed indent ds)) ≡ ok (forget (maps dropParams ds)) (pos nowhere [] [])
+  pub print-parsed : (indent : ℕ) → bareR forget (parsed (printed indent ds)) ≡ ok (forget (maps dropParams ds)) (pos nowhere [] [])
   unfolding parsed moveS moves
-  print-parsed n indent = sym (parse-same (between opening opening) (tokens (printed indent ds) opening) (print-last n indent)) ∙ print-reads n indent
+  print-parsed indent = sym (parse-same (between opening opening) (tokens (printed indent ds) opening) (print-last indent)) ∙ print-reads indent
 
 -- a text that is read, to the same as xs but for places
 pub record Again (t : List ℕ) (xs : List Definition) : Type 0 where
@@ -124,5 +123,5 @@ again-by (ok ds s) t xs f p e = record { found = ds; taken = rw (f, p) refl; sam
 again-by (no x l) t xs f p e = absurd (false≢true (ap succeeds e))
 
 module _ (t : List ℕ) (b : Bytes t) (ds : List Definition) (e : outcome t ≡ accepted ds) where
-  pub print-again : All Numbered ds → (indent : ℕ) → length (printed indent ds) ≤ 65536 → Again (printed indent ds) (maps dropParams ds)
-  print-again n indent h = again-by _ (printed indent ds) (maps dropParams ds) (print-fine t b ds e n indent h) refl (print-parsed t b ds e n indent)
+  pub print-again : (indent : ℕ) → length (printed indent ds) ≤ 65536 → Again (printed indent ds) (maps dropParams ds)
+  print-again indent h = again-by _ (printed indent ds) (maps dropParams ds) (print-fine t b ds e indent h) refl (print-parsed t b ds e indent)

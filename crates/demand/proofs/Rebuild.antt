@@ -116,6 +116,9 @@ aField k f = eqb k 12 && leb f 15
 unfoldable pub aThrown : ℕ → ℕ → Bool
 aThrown k f = eqb k 12 && leb 16 f
 
+unfoldable pub anId : ℕ → ℕ → Bool
+anId k f = eqb k 17
+
 unfoldable pub anAnnotations : ℕ → ℕ → Bool
 anAnnotations k f = eqb k 14
 
@@ -187,12 +190,16 @@ unfoldable pub requiredOf : ℕ → Required
 requiredOf f = cond (eqb f 1 || eqb f 17) required (cond (eqb f 2 || eqb f 18) optional default)
 
 -- behind the name
-unfoldable pub fieldWith : Lexeme → FieldType → Lexeme → Required → List Lexeme → Shapes → Field
-fieldWith i t n q c r = field nowhere c (some i) q t n (first (select noAnnotations valueOf r)) (annotationsIn r)
+unfoldable pub fieldWith : Option Lexeme → FieldType → Lexeme → Required → List Lexeme → Shapes → Field
+fieldWith i t n q c r = field nowhere c i q t n (first (select noAnnotations valueOf r)) (annotationsIn r)
+
+-- behind the id, if there is one
+unfoldable pub fieldFrom : Option Lexeme → Required → List Lexeme → Shapes → Field
+fieldFrom i q c ts = fieldWith i (typeOf (head ts)) (leafOf (head (tail ts))) q c (tail (tail ts))
 
 unfoldable pub fieldOf : Shape → Field
 fieldOf (shape k f w c ts) =
-    fieldWith (leafOf (head ts)) (typeOf (head (tail ts))) (leafOf (head (tail (tail ts)))) (requiredOf f) (maps spelled c) (tail (tail (tail ts)))
+    cond (holds anId (head ts)) (fieldFrom (some (leafOf (head ts))) (requiredOf f) (maps spelled c) (tail ts)) (fieldFrom none (requiredOf f) (maps spelled c) ts)
 
 unfoldable pub memberOf : Shape → EnumMember
 memberOf (shape k f w c ts) =

@@ -23,6 +23,9 @@ use Rattle.ast.specs.Drop.{dropField, dropFunction, dropParams}
 use Rattle.ast.specs.Ast.{
   FieldType,
   CommonType,
+  ListType,
+  SetType,
+  MapType,
   FieldInitialValue,
   ConstValue,
   ConstList,
@@ -104,6 +107,7 @@ use Rattle.demand.proofs.Rebuild.{
   aMember,
   aField,
   aThrown,
+  anId,
   anAnnotations,
   noAnnotations,
   typeOf,
@@ -122,6 +126,7 @@ use Rattle.demand.proofs.Rebuild.{
   annotationsIn,
   requiredOf,
   fieldWith,
+  fieldFrom,
   fieldOf,
   memberOf,
   onewayBy,
@@ -364,12 +369,31 @@ default-back {v = v} d a =
     go W.wnone = refl
     go (W.wsome h) = ap some (value-back h)
 
+-- an id is told from a type
+id-here : (t : Lexeme) → holds anId (shapeOf (idTree t)) ≡ true
+unfolding holds shapeOf idTree leaf anId
+id-here (lexeme k w l) = refl
+
+type-no-id : (t : FieldType) → holds anId (shapeOf (typeTree t)) ≡ false
+unfolding holds shapeOf typeTree inner leaf anId
+type-no-id (CommonType (lexeme k w l)) = go (is k T.Identifier)
+  where
+    go : (b : Bool) → eqb (cond b 19 18) 17 ≡ false
+    go true = refl
+    go false = refl
+type-no-id (ListType l k t) = refl
+type-no-id (SetType l k t) = refl
+type-no-id (MapType l k t u) = refl
+
+field-annotations : (v : Option FieldInitialValue) {a : Annotations} → W.WfAnnotations Good a → annotationsIn (shapesOf (perhaps valueTree v (annotationsTree a bare))) ≡ forgetAnnotations a
+field-annotations v {a} g = behind-perhaps valueTree (λ x. not-both (shapeOf (valueTree x)) (value-here x)) v (annotationsTree a bare) ∙ annotations-back g
+
 field-back : (f : ℕ) → Reads f → {x : Field} → W.WfField Good x → fieldOf (shapeOf (fieldTree f x)) ≡ forgetField x
-unfolding fieldOf fieldWith head tail shapeOf shapesOf fieldTree perhaps opt moveField
-field-back f q (W.wfield {q = r} {v = v} {a = a} c (W.wid i j) t n d g) =
-    let h : annotationsIn (shapesOf (perhaps valueTree v (annotationsTree a bare))) ≡ forgetAnnotations a
-    = behind-perhaps valueTree (λ x. not-both (shapeOf (valueTree x)) (value-here x)) v (annotationsTree a bare) ∙ annotations-back g in
-    cc (notes-back c, id-back i, type-back t, name-back n, q r, default-back d a)
+unfolding fieldOf fieldFrom fieldWith head tail shapeOf shapesOf fieldTree perhaps opt moveField
+field-back f q (W.wfield {q = r} {t = y} {v = v} {a = a} c W.wnoid t n d g) =
+    rw (type-no-id y) (cc (notes-back c, type-back t, name-back n, q r, default-back d a, field-annotations v g))
+field-back f q (W.wfield {q = r} {v = v} {a = a} c (W.wid {t = x} i j) t n d g) =
+    rw (id-here x) (cc (notes-back c, id-back i, type-back t, name-back n, q r, default-back d a, field-annotations v g))
 
 -- ---- members
 

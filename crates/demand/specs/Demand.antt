@@ -9,8 +9,6 @@ use Rattle.lexer.specs.Outcome as O
 use Rattle.lexer.specs.Outcome.{Outcome}
 use Rattle.lexer.specs.Limit.{limit}
 use Rattle.ast.specs.Ast.{Definition}
-use Rattle.ast.specs.Lists.{All}
-use Rattle.ast.specs.Numbered.{Numbered}
 use Rattle.ast.specs.Records.{nodeRows, notes}
 use Rattle.parser.specs.Read as R
 use Rattle.parser.specs.Read.{outcome}
@@ -24,11 +22,10 @@ use Rattle.demand.specs.Calls.{Call, reads, prints, Given, has-read, has
 abbrev pub Accepts : ℕ → List ℕ → List Definition → Type 0
 Accepts indent t ds = outcomeAt indent t ≡ O.accepted ds
 
--- the premise: accepted, numbered, and its print fits the limits
+-- the premise: accepted, and its print fits the limits
 pub record Premise (indent : ℕ) (t : List ℕ) (ds : List Definition) : Type 0 where
   pub bytes : Bytes t
   pub accepted : Accepts indent t ds
-  pub numbered : All Numbered ds
   pub fits : length (printed indent ds) ≤ limit
 
 -- what a call gives for a file whose definitions are ds: 24 if it has more nodes than the node table holds, else 25 if more comments than the comment table holds,
@@ -76,7 +73,7 @@ pub record Fixed (indent : ℕ) (ds : List Definition) : Type 0 where
   pub agree : Agree definitions ds
   pub same-bytes : printed indent definitions ≡ printed indent ds
 
--- two numbered texts print alike exactly when their definitions agree
+-- two texts print alike exactly when their definitions agree
 pub record Alike (indent : ℕ) (ds es : List Definition) : Type 0 where
   pub from-print : printed indent ds ≡ printed indent es → Agree ds es
   pub to-print : Agree ds es → printed indent ds ≡ printed indent es
@@ -84,5 +81,4 @@ pub record Alike (indent : ℕ) (ds es : List Definition) : Type 0 where
 pub record Demand3 : Type 0 where
   pub fixed : (indent : ℕ) (t : List ℕ) (ds : List Definition) → Premise indent t ds → Fixed indent ds
   pub stays : (indent : ℕ) (t : List ℕ) (ds : List Definition) → Premise indent t ds → (cs : List Call) → Stays indent t ds false (trace indent cs t)
-  pub alike : (indent : ℕ) (t u : List ℕ) (ds es : List Definition) → Bytes t → Bytes u → outcome t ≡ O.accepted ds → outcome u ≡ O.accepted es →
-      All Numbered ds → All Numbered es → Alike indent ds es
+  pub alike : (indent : ℕ) (t u : List ℕ) (ds es : List Definition) → Bytes t → Bytes u → outcome t ≡ O.accepted ds → outcome u ≡ O.accepted es → Alike indent ds es

@@ -96,5 +96,5 @@ run-kept indent qs m end e ds h wide =
           e
           ∙ runs-file (length (m .file .space)) indent t ds (f .definitions) (h .accepted) (f .accepted) (f .same-bytes) refl (f .agree) wide qs false m refl refl;
       fixed = f;
-      alike = λ u es b r n. demand-3 .alike indent t u ds es (h .bytes) b (accepts-reads indent t ds (h .accepted) .reads) r (h .numbered) n;
+      alike = λ u es b r. demand-3 .alike indent t u ds es (h .bytes) b (accepts-reads indent t ds (h .accepted) .reads) r;
     }

@@ -7,8 +7,6 @@ use lib.Dec.{eqb, leb}
 use lib.ListN.{length, take, drop}
 use Rattle.token.specs.Breaks.{Bytes}
 use Rattle.ast.specs.Ast.{Definition}
-use Rattle.ast.specs.Lists.{All}
-use Rattle.ast.specs.Numbered.{Numbered}
 use Rattle.lexer.specs.Outcome.{Outcome, accepted, refused}
 use Rattle.parser.specs.Read.{outcome}
 use Rattle.writer.specs.Print.{printed}
@@ -98,8 +96,8 @@ pub record Kept (indent : ℕ) (t : List ℕ) (ds : List Definition) (cs : List 
   pub file : end ≡ cond (anyPrint (trace indent cs t)) (printed indent ds) t
   -- the print is accepted, has the same definitions, and is its own print
   pub fixed : Fixed indent ds
-  -- another numbered text prints alike exactly when its definitions agree
-  pub alike : (u : List ℕ) (es : List Definition) → Bytes u → outcome u ≡ accepted es → All Numbered es → Alike indent ds es
+  -- another text prints alike exactly when its definitions agree
+  pub alike : (u : List ℕ) (es : List Definition) → Bytes u → outcome u ≡ accepted es → Alike indent ds es
 
 -- so it is of every file that the premise holds of, in a space that holds its print
 abbrev pub Unaltered : ℕ → List Request → Memory → List ℕ → Type 0

@@ -1,4 +1,4 @@
--- With the constant 65537 the readers of specs/Fueled are parser's own.
+-- With the constant 65537 and parser's rule for a field's id the readers of specs/Fueled are parser's own.
 use mathlib.Core.Path.{_≡_, refl}
 use mathlib.Core.List.{List}
 use Prim.Native.Nat.{ℕ, suc, zero}
@@ -38,19 +38,19 @@ pub default-anchor : F.parseDefault 65537 ≡ D.parseDefault
 unfolding F.parseDefault D.parseDefault
 default-anchor = rw parse-value-anchor
 
-pub field-anchor : F.parseField 65537 ≡ D.parseField
+pub field-anchor : F.parseField D.parseFieldId 65537 ≡ D.parseField
 unfolding F.parseField D.parseField
 field-anchor = rw (default-anchor, annotations-anchor)
 
-pub parameters-anchor : F.parseParameters 65537 ≡ D.parseParameters
+pub parameters-anchor : F.parseParameters D.parseFieldId 65537 ≡ D.parseParameters
 unfolding F.parseParameters D.parseParameters F.parseMembers D.parseMembers many
 parameters-anchor = rw field-anchor
 
-pub throws-anchor : F.parseThrows 65537 ≡ D.parseThrows
+pub throws-anchor : F.parseThrows D.parseFieldId 65537 ≡ D.parseThrows
 unfolding F.parseThrows D.parseThrows
 throws-anchor = rw parameters-anchor
 
-pub function-anchor : F.parseFunction 65537 ≡ D.parseFunction
+pub function-anchor : F.parseFunction D.parseFieldId 65537 ≡ D.parseFunction
 unfolding F.parseFunction D.parseFunction
 function-anchor = rw (parameters-anchor, throws-anchor, annotations-anchor)
 
@@ -66,19 +66,19 @@ pub enum-anchor : F.parseEnum 65537 ≡ D.parseEnum
 unfolding F.parseEnum D.parseEnum F.parseMembers D.parseMembers many
 enum-anchor = rw (member-anchor, annotations-anchor)
 
-pub structure-anchor : (k : Structure) → F.parseStructure 65537 k ≡ D.parseStructure k
+pub structure-anchor : (k : Structure) → F.parseStructure D.parseFieldId 65537 k ≡ D.parseStructure k
 unfolding F.parseStructure D.parseStructure F.parseMembers D.parseMembers many
 structure-anchor k = rw (field-anchor, annotations-anchor)
 
-pub service-anchor : F.parseService 65537 ≡ D.parseService
+pub service-anchor : F.parseService D.parseFieldId 65537 ≡ D.parseService
 unfolding F.parseService D.parseService F.parseMembers D.parseMembers many
 service-anchor = rw (function-anchor, annotations-anchor)
 
-pub definition-anchor : F.parseDefinition 65537 ≡ D.parseDefinition
+pub definition-anchor : F.parseDefinition D.parseFieldId 65537 ≡ D.parseDefinition
 unfolding F.parseDefinition D.parseDefinition
 definition-anchor = rw (const-anchor, enum-anchor, structure-anchor Struct, structure-anchor Union, structure-anchor Exception, service-anchor)
 
-pub document-anchor : F.parseDocument 65537 ≡ D.parseDocument
+pub document-anchor : F.parseDocument D.parseFieldId 65537 ≡ D.parseDocument
 unfolding F.parseDocument D.parseDocument many
 document-anchor = rw definition-anchor
 

@@ -1,11 +1,12 @@
 -- The constant of the loop is no part of what is read: every reader of specs/Fueled gives the same with any two amounts of fuel above the tokens left.
---     document-fuel    the readers of a document, for any two amounts above the number of tokens
+--     document-fuel    the readers of a document, for any two amounts above the number of tokens and any rule for a field's id that puts no token back
 --     larger           parseDocument with any larger constant, on at most 65536 tokens
 --     parsed-larger    the same for every text of at most 65536 bytes
 --     outcome-larger   the outcome of every text whatever: a longer one is refused before it is read
 --
 use mathlib.Core.Path.{_≡_, refl, _∙_}
 use mathlib.Core.List.{List, [], _∷_}
+use mathlib.Core.Option.{Option}
 use Prim.Native.Nat.{ℕ, suc, zero, _≤_, _<_}
 use native.Mathlib.Omega.{arith}
 use lib.ListN.{length}
@@ -23,7 +24,7 @@ use Rattle.parser.specs.Definitions as D
 use Rattle.parser.specs.Definitions.{parseAnnotation, annotationsEnd, membersEnd, documentEnd}
 use Rattle.parser.specs.Read as R
 use Rattle.parser.proofs.Paid.{tokens-bound}
-use Rattle.fuel.specs.Takes.{tokensLeft}
+use Rattle.fuel.specs.Takes.{tokensLeft, Keeps}
 use Rattle.fuel.specs.Fueled.{
   listValue,
   mapValue,
@@ -59,7 +60,6 @@ use Rattle.fuel.proofs.Taken.{
   want-takes,
   type-takes,
   return-type-takes,
-  field-id-takes,
   include-takes,
   cpp-include-takes,
   namespace-takes,
@@ -70,6 +70,7 @@ use Rattle.fuel.proofs.Taken.{
   trivia-keeps,
   initializer-keeps,
   extends-keeps,
+  field-id-keeps,
   required-keeps,
   oneway-keeps,
   values-end-keeps,
@@ -86,8 +87,8 @@ value-by-a p q s hp =
     bind-a (taking next-takes s) λ t u h. test-a _ _ _ _ _ u (alike {s = u} (omega arith))
     (test-a _ _ _ _ _ u (weak-a (λ k g. omega arith) (hp t u (omega arith))) (refuse-a 6 t u))
 
--- two amounts of fuel that are the same, or both above the tokens left in s
-module _ (n m : ℕ) where
+-- two amounts of fuel that are the same, or both above the tokens left in s; any rule for a field's id that puts no token back
+module _ (rule : P (Option Lexeme)) (rule-keeps : Keeps rule) (n m : ℕ) where
   -- two readers read alike from s, and take x tokens
   abbrev Same : {A : Type 0} → ℕ → P A → P A → Type 0
   Same x p q = (s : St) → Enough n m (tokensLeft s) → Alike x (tokensLeft s) (p s) (q s)
@@ -142,10 +143,10 @@ module _ (n m : ℕ) where
       (bind-a (taking next-takes s) λ t u h1. bind-a (value-a u (fewer _ (omega arith) f)) λ v w h2. alike {s = w} (omega arith))
       (alike {s = s} (omega arith))
 
-  field-a : Same 1 (parseField n) (parseField m)
+  field-a : Same 1 (parseField rule n) (parseField rule m)
   unfolding parseField
   field-a s f =
-      bind-a (keeping taken-keeps s) λ c s1 h1. bind-a (keeping start-keeps s1) λ b s2 h2. bind-a (taking field-id-takes s2) λ i s3 h3.
+      bind-a (keeping taken-keeps s) λ c s1 h1. bind-a (keeping start-keeps s1) λ b s2 h2. bind-a (keeping rule-keeps s2) λ i s3 h3.
       bind-a (keeping required-keeps s3) λ r s4 h4. bind-a (taking type-takes s4) λ t s5 h5. bind-a (taking (want-takes _ 8) s5) λ k s6 h6.
       bind-a (default-a s6 (fewer _ (omega arith) f)) λ v s7 h7. bind-a (annotations-a s7 (fewer _ (omega arith) f)) λ a s8 h8.
       bind-a (keeping here-keeps s8) λ e s9 h9. alike {s = s9} (omega arith)
@@ -157,20 +158,20 @@ module _ (n m : ℕ) where
       weak-a (λ k g. omega arith)
       (loop-a [] _∷_ (membersEnd r) (members-end-keeps r) p q (tokensLeft u) (λ v h. hp v (fewer _ (omega arith) f)) n m u (omega arith) (fewer _ (omega arith) f))
 
-  parameters-a : Same 1 (parseParameters n) (parseParameters m)
+  parameters-a : Same 1 (parseParameters rule n) (parseParameters rule m)
   unfolding parseParameters
-  parameters-a = members-a T.LeftParen T.RightParen (parseField n) (parseField m) field-a
+  parameters-a = members-a T.LeftParen T.RightParen (parseField rule n) (parseField rule m) field-a
 
   -- ---- functions
 
-  throws-a : Same 0 (parseThrows n) (parseThrows m)
+  throws-a : Same 0 (parseThrows rule n) (parseThrows rule m)
   unfolding parseThrows
   throws-a s f =
       when-a _ _ _ _ _ s
       (bind-a (taking next-takes s) λ t u h1. bind-a (parameters-a u (fewer _ (omega arith) f)) λ v w h2. alike {s = w} (omega arith))
       (alike {s = s} (omega arith))
 
-  function-a : Same 1 (parseFunction n) (parseFunction m)
+  function-a : Same 1 (parseFunction rule n) (parseFunction rule m)
   unfolding parseFunction
   function-a s f =
       bind-a (keeping taken-keeps s) λ c s1 h1. bind-a (keeping oneway-keeps s1) λ o s2 h2. bind-a (taking return-type-takes s2) λ t s3 h3.
@@ -202,22 +203,22 @@ module _ (n m : ℕ) where
       bind-a (members-a T.LeftBrace T.RightBrace (parseEnumMember n) (parseEnumMember m) member-a s3 (fewer _ (omega arith) f)) λ xs s4 h4.
       bind-a (annotations-a s4 (fewer _ (omega arith) f)) λ a s5 h5. bind-a (keeping here-keeps s5) λ e s6 h6. alike {s = s6} (omega arith)
 
-  structure-a : (g : Structure) → Same 1 (parseStructure n g) (parseStructure m g)
+  structure-a : (g : Structure) → Same 1 (parseStructure rule n g) (parseStructure rule m g)
   unfolding parseStructure
   structure-a g s f =
       bind-a (keeping taken-keeps s) λ c s1 h1. bind-a (taking next-takes s1) λ k s2 h2. bind-a (taking (want-takes _ 16) s2) λ t s3 h3.
-      bind-a (members-a T.LeftBrace T.RightBrace (parseField n) (parseField m) field-a s3 (fewer _ (omega arith) f)) λ xs s4 h4.
+      bind-a (members-a T.LeftBrace T.RightBrace (parseField rule n) (parseField rule m) field-a s3 (fewer _ (omega arith) f)) λ xs s4 h4.
       bind-a (annotations-a s4 (fewer _ (omega arith) f)) λ a s5 h5. bind-a (keeping here-keeps s5) λ e s6 h6. alike {s = s6} (omega arith)
 
-  service-a : Same 1 (parseService n) (parseService m)
+  service-a : Same 1 (parseService rule n) (parseService rule m)
   unfolding parseService
   service-a s f =
       bind-a (keeping taken-keeps s) λ c s1 h1. bind-a (taking next-takes s1) λ k s2 h2. bind-a (taking (want-takes _ 17) s2) λ t s3 h3.
       bind-a (keeping extends-keeps s3) λ x s4 h4.
-      bind-a (members-a T.LeftBrace T.RightBrace (parseFunction n) (parseFunction m) function-a s4 (fewer _ (omega arith) f)) λ xs s5 h5.
+      bind-a (members-a T.LeftBrace T.RightBrace (parseFunction rule n) (parseFunction rule m) function-a s4 (fewer _ (omega arith) f)) λ xs s5 h5.
       bind-a (annotations-a s5 (fewer _ (omega arith) f)) λ a s6 h6. bind-a (keeping here-keeps s6) λ e s7 h7. alike {s = s7} (omega arith)
 
-  definition-a : Same 1 (parseDefinition n) (parseDefinition m)
+  definition-a : Same 1 (parseDefinition rule n) (parseDefinition rule m)
   unfolding parseDefinition
   definition-a s f =
       when-a _ _ _ _ _ s (taking include-takes s)
@@ -231,25 +232,25 @@ module _ (n m : ℕ) where
       (when-a _ _ _ _ _ s (structure-a Exception s f)
       (when-a _ _ _ _ _ s (service-a s f) (fail-a 2 s))))))))))
 
-  document-a : Same 0 (parseDocument n) (parseDocument m)
+  document-a : Same 0 (parseDocument rule n) (parseDocument rule m)
   unfolding parseDocument
   document-a s f =
-      loop-a [] _∷_ documentEnd document-end-keeps (parseDefinition n) (parseDefinition m) (tokensLeft s) (λ u h. definition-a u (fewer _ h f)) n m s (omega arith) f
+      loop-a [] _∷_ documentEnd document-end-keeps (parseDefinition rule n) (parseDefinition rule m) (tokensLeft s) (λ u h. definition-a u (fewer _ h f)) n m s (omega arith) f
 
   -- ---- a document
 
-  pub document-fuel : (s : St) → tokensLeft s < n → tokensLeft s < m → parseDocument n s ≡ parseDocument m s
+  pub document-fuel : (s : St) → tokensLeft s < n → tokensLeft s < m → parseDocument rule n s ≡ parseDocument rule m s
   document-fuel s f g = alike-same (document-a s (above f g))
 
 -- with any larger constant, on at most 65536 tokens
-pub larger : (n : ℕ) (s : St) → tokensLeft s ≤ 65536 → 65536 < n → parseDocument n s ≡ D.parseDocument s
-larger n s h g = rw (← document-anchor) (document-fuel n 65537 s (omega arith) (omega arith))
+pub larger : (n : ℕ) (s : St) → tokensLeft s ≤ 65536 → 65536 < n → parseDocument D.parseFieldId n s ≡ D.parseDocument s
+larger n s h g = rw (← document-anchor) (document-fuel D.parseFieldId field-id-keeps n 65537 s (omega arith) (omega arith))
 
 -- with any constant above the number of bytes, on a text of at most 65536
 pub parsed-fuel : (n : ℕ) (t : List ℕ) → length t ≤ 65536 → length t < n → parsed n t ≡ R.parsed t
 unfolding parsed
 parsed-fuel n t h g =
-    document-fuel n 65537 (pos (between opening opening) [] (tokens t opening)) (omega (arith, tokens-bound t)) (omega (arith, tokens-bound t)) ∙ parsed-anchor t
+    document-fuel D.parseFieldId field-id-keeps n 65537 (pos (between opening opening) [] (tokens t opening)) (omega (arith, tokens-bound t)) (omega (arith, tokens-bound t)) ∙ parsed-anchor t
 
 pub parsed-larger : (n : ℕ) (t : List ℕ) → length t ≤ 65536 → 65536 < n → parsed n t ≡ R.parsed t
 parsed-larger n t h g = parsed-fuel n t h (omega arith)

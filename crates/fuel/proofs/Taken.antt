@@ -114,9 +114,6 @@ type-takes s = takes-paid _ (λ v. rooted _) (parse-type-p s)
 pub return-type-takes : Takes parseReturnType
 return-type-takes s = takes-paid _ (λ v. rooted _) (return-type-p s)
 
-pub field-id-takes : Takes parseFieldId
-field-id-takes s = takes-paid _ (λ v. omega arith) (field-id-p s)
-
 pub include-takes : Takes (parseInclude Include)
 include-takes s = takes-paid _ (λ v. rooted _) (include-p s)
 
@@ -170,6 +167,9 @@ keeping h s = leaves-alike (h s)
 pub refuse-a : {A : Type 0} {x a : ℕ} (e : ℕ) (t : Lexeme) (s : St) → Alike x a (refuse {A = A} e t s) (refuse e t s)
 unfolding refuse
 refuse-a e t s = neither
+
+pub field-id-keeps : Keeps parseFieldId
+field-id-keeps s = keeps-paid _ (field-id-p s)
 
 pub required-keeps : Keeps parseRequired
 unfolding parseRequired

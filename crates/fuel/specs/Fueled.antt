@@ -1,5 +1,4 @@
--- The readers of parser's Values and Definitions that read a list, with the loop's constant as a parameter n; at 65537 they are those (proofs/Anchor).
---
+-- The readers of parser's Values and Definitions that read a list or a field, with the loop's constant n and the rule for a field's id as parameters; at 65537 and parser's rule they are those (proofs/Anchor).
 use mathlib.Core.List.{List, [], _∷_}
 use mathlib.Core.Option.{Option, some, none}
 use Prim.Native.Nat.{ℕ, suc, zero}
@@ -103,11 +102,11 @@ parseAnnotations n =
 unfoldable pub parseDefault : ℕ → P (Option FieldInitialValue)
 parseDefault n = when (T.Equals ∷ []) (do next; v ← parseValue n; pure (some v)) (pure none)
 
-unfoldable pub parseField : ℕ → P Field
-parseField n = do
+unfoldable pub parseField : P (Option Lexeme) → ℕ → P Field
+parseField rule n = do
   c ← taken
   b ← start
-  i ← parseFieldId
+  i ← rule
   r ← parseRequired
   t ← parseType
   m ← want fieldNames InvalidFieldName
@@ -121,22 +120,22 @@ parseMembers n l r p = do
   want (l ∷ []) UnexpectedToken
   loop [] _∷_ (membersEnd r) p n
 
-unfoldable pub parseParameters : ℕ → P (List Field)
-parseParameters n = parseMembers n T.LeftParen T.RightParen (parseField n)
+unfoldable pub parseParameters : P (Option Lexeme) → ℕ → P (List Field)
+parseParameters rule n = parseMembers n T.LeftParen T.RightParen (parseField rule n)
 
 -- ---- functions
 
-unfoldable pub parseThrows : ℕ → P (Option (List Field))
-parseThrows n = when (T.Throws ∷ []) (do next; fs ← parseParameters n; pure (some fs)) (pure none)
+unfoldable pub parseThrows : P (Option Lexeme) → ℕ → P (Option (List Field))
+parseThrows rule n = when (T.Throws ∷ []) (do next; fs ← parseParameters rule n; pure (some fs)) (pure none)
 
-unfoldable pub parseFunction : ℕ → P Function
-parseFunction n = do
+unfoldable pub parseFunction : P (Option Lexeme) → ℕ → P Function
+parseFunction rule n = do
   c ← taken
   o ← parseOneway
   t ← parseReturnType
   m ← want (T.Identifier ∷ []) UnexpectedToken
-  ps ← parseParameters n
-  th ← parseThrows n
+  ps ← parseParameters rule n
+  th ← parseThrows rule n
   skip-trivia
   a ← parseAnnotations n
   e ← here
@@ -177,48 +176,48 @@ parseEnum n = do
   e ← here
   pure (Enum (span (place k) e) c m xs a)
 
-unfoldable pub parseStructure : ℕ → Structure → P Definition
-parseStructure n s = do
+unfoldable pub parseStructure : P (Option Lexeme) → ℕ → Structure → P Definition
+parseStructure rule n s = do
   c ← taken
   k ← next
   m ← want (T.Identifier ∷ []) MissingStructIdentifier
-  xs ← parseMembers n T.LeftBrace T.RightBrace (parseField n)
+  xs ← parseMembers n T.LeftBrace T.RightBrace (parseField rule n)
   a ← parseAnnotations n
   e ← here
   pure (structure s (span (place k) e) c m xs a)
 
-unfoldable pub parseService : ℕ → P Definition
-parseService n = do
+unfoldable pub parseService : P (Option Lexeme) → ℕ → P Definition
+parseService rule n = do
   c ← taken
   k ← next
   m ← want (T.Identifier ∷ []) MissingServiceIdentifier
   x ← parseExtends
-  xs ← parseMembers n T.LeftBrace T.RightBrace (parseFunction n)
+  xs ← parseMembers n T.LeftBrace T.RightBrace (parseFunction rule n)
   a ← parseAnnotations n
   e ← here
   pure (Service (span (place k) e) c m x xs a)
 
-unfoldable pub parseDefinition : ℕ → P Definition
-parseDefinition n =
+unfoldable pub parseDefinition : P (Option Lexeme) → ℕ → P Definition
+parseDefinition rule n =
     when (T.Include ∷ []) (parseInclude Include)
     (when (T.CppInclude ∷ []) (parseInclude CppInclude)
     (when (T.Namespace ∷ []) parseNamespace
     (when (T.Const ∷ []) (parseConst n)
     (when (T.Typedef ∷ []) parseTypedef
     (when (T.Enum ∷ []) (parseEnum n)
-    (when (T.Struct ∷ []) (parseStructure n Struct)
-    (when (T.Union ∷ []) (parseStructure n Union)
-    (when (T.Exception ∷ []) (parseStructure n Exception)
-    (when (T.Service ∷ []) (parseService n)
+    (when (T.Struct ∷ []) (parseStructure rule n Struct)
+    (when (T.Union ∷ []) (parseStructure rule n Union)
+    (when (T.Exception ∷ []) (parseStructure rule n Exception)
+    (when (T.Service ∷ []) (parseService rule n)
     (fail UnexpectedToken))))))))))
 
-unfoldable pub parseDocument : ℕ → P (List Definition)
-parseDocument n = loop [] _∷_ documentEnd (parseDefinition n) n
+unfoldable pub parseDocument : P (Option Lexeme) → ℕ → P (List Definition)
+parseDocument rule n = loop [] _∷_ documentEnd (parseDefinition rule n) n
 
 -- ---- a text
 
 unfoldable pub parsed : ℕ → List ℕ → Res (List Definition)
-parsed n t = parseDocument n (pos (between opening opening) [] (tokens t opening))
+parsed n t = parseDocument parseFieldId n (pos (between opening opening) [] (tokens t opening))
 
 unfoldable pub outcomeBy : ℕ → Outcome (List ℕ) → List ℕ → Outcome (List Definition)
 outcomeBy n (accepted ns) t = answered (parsed n t) t

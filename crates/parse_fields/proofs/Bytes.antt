@@ -17,6 +17,7 @@ use Rattle.steps.proofs.Bytes.{
   cond-known,
   falls-rests,
   fall-rest,
+  rest-fall,
   rest-rest,
   refused-w,
   stays-w,
@@ -43,6 +44,7 @@ use Rattle.parse_fields.specs.Into.{
   annotationIn,
   annotationListIn,
   annotationsIn,
+  idIn,
   fieldIdIn,
   requiredOf,
   skipRequired,
@@ -103,13 +105,17 @@ module _ (text : List ℕ) where
 
   -- ---- fields
 
-  field-id-falls : (b p : ℕ) → Falls text (fieldIdIn text b p)
+  id-rests : (before : State) (b p : ℕ) → Rests text (idIn text before b p)
+  unfolding idIn
+  id-rests before b p st t u =
+      cond-w (isIdAt text (unpackedLoc (st .last))) (rest-rest (leaf-rests text 17 b p) (falls-rests (expect-falls text 43 2)) st t u) (refused-w 9 before)
+
+  field-id-rests : (b p : ℕ) → Rests text (fieldIdIn text b p)
   unfolding fieldIdIn
-  field-id-falls b p st t u =
-      after-w (take-falls text st t u) λ st₁ t₁ u₁ h. weak-w (λ n i. omega arith)
-      (cond-w (eqb (st .kind) 32)
-      (cond-w (isIdAt text (unpackedLoc (st₁ .last))) (rest-rest (leaf-rests text 17 b p) (falls-rests (expect-falls text 43 2)) st₁ t₁ u₁) (refused-w 9 st))
-      (stays-w text st₁ t₁ u₁))
+  field-id-rests b p st t u =
+      cond-known (eqb (st .kind) 32)
+      (λ e. weak-w (λ n h. omega arith) (advanced-w text st (some-by (λ n. eqb n 32) refl (st .kind) e) (id-rests st b p (advanced text st) t u)))
+      (λ e. stays-w text st t u)
 
   required-some : (k : ℕ) → eqb (requiredOf k) 0 ≡ false → eqb k 255 ≡ false
   unfolding requiredOf
@@ -150,7 +156,7 @@ module _ (text : List ℕ) where
   unfolding fieldIn
   field-falls f b p st t u =
       after-w (opened-w text st (own-rests text (st .next) (opened st) t u)) λ st₁ t₁ u₁ h. weak-w (λ n i. omega arith)
-      (fall-rest (field-id-falls b (st .next)) (λ st₂ t₂ u₂. after-w (field-head-falls b (st .next) st₂ t₂ u₂) λ st₃ t₃ u₃ g. weak-w (λ n i. omega arith)
+      (rest-fall (field-id-rests b (st .next)) (λ st₂ t₂ u₂. after-w (field-head-falls b (st .next) st₂ t₂ u₂) λ st₃ t₃ u₃ g. weak-w (λ n i. omega arith)
       (rest-rest (field-tail-rests b (st .next)) (node-rests text (st .next) 12 (sum (requiredOf (st₂ .kind)) f) (startAt st) b p) st₃ t₃ u₃)) st₁ t₁ u₁)
 
   -- ---- members

@@ -8,8 +8,7 @@ use Rattle.steps.specs.declared.state.State.{State}
 use Rattle.steps.specs.Packed.{unpackedLoc}
 use Rattle.steps.specs.Into.{isSeparator, loopIn, closesAt, takeIn, M, _⨟_, advanced, after, done, expectIn, isIdAt, leafIn, nodeIn, opened, ownIn, refused, startAt, sum}
 use Rattle.parse_values.specs.Into.{typeIn, valueIn}
-use Rattle.parser.specs.Definitions.{nesting}
-use Rattle.parse_fields.specs.Into.{skipMemberIn, annotationIn, annotationListIn, annotationsIn, defaultIn, fieldHeadIn, fieldIdIn, fieldIn, fieldNameIn, fieldTailIn, fieldsIn, isFieldName, membersIn, nameIn, oneSeparatorIn, requiredOf, skipRequired, tokenIn}
+use Rattle.parse_fields.specs.Into.{skipMemberIn, annotationIn, annotationListIn, annotationsIn, defaultIn, fieldHeadIn, fieldIdIn, fieldIn, fieldNameIn, fieldTailIn, fieldsIn, idIn, isFieldName, membersIn, nameIn, oneSeparatorIn, requiredOf, skipRequired, tokenIn}
 
 pub token-is : (text : List ℕ) (w : ℕ) (e : ℕ) (k : ℕ) (b : ℕ) (p : ℕ) (st : State) (t u : List ℕ) → tokenIn text w e k b p st t u ≡
     (expectIn text w e ⨟ leafIn k b p) st t u
@@ -31,8 +30,13 @@ pub annotations-is : (text : List ℕ) (b : ℕ) (p : ℕ) (st : State) (t u : L
 unfolding annotationsIn
 annotations-is text b p st t u = refl
 
+pub id-is : (text : List ℕ) (before : State) (b : ℕ) (p : ℕ) (st : State) (t u : List ℕ) → idIn text before b p st t u ≡
+    cond (isIdAt text (unpackedLoc (st .last))) ((leafIn 17 b p ⨟ expectIn text 43 2) st t u) (refused 9 before)
+unfolding idIn
+id-is text before b p st t u = refl
+
 pub field-id-is : (text : List ℕ) (b : ℕ) (p : ℕ) (st : State) (t u : List ℕ) → fieldIdIn text b p st t u ≡
-    after (takeIn text st t u) (λ st₁ t u. cond (eqb (st .kind) 32) (cond (isIdAt text (unpackedLoc (st₁ .last))) ((leafIn 17 b p ⨟ expectIn text 43 2) st₁ t u) (refused 9 st)) (done st₁ t u))
+    cond (eqb (st .kind) 32) (idIn text st b p (advanced text st) t u) (done st t u)
 unfolding fieldIdIn
 field-id-is text b p st t u = refl
 

@@ -42,7 +42,6 @@ use Rattle.ast.specs.Tree.{
 }
 use Rattle.steps.specs.declared.state.State.{State}
 use Rattle.parser.specs.Steps.{kind, bytes, place, span, St, Res, P, test, peek, when, next, want, separators}
-use Rattle.parser.specs.Definitions as D
 use Rattle.parser.specs.Definitions.{
   isId,
   oneSeparator,
@@ -82,7 +81,7 @@ use Rattle.steps.specs.Into.{
   isIdAt,
 }
 use Rattle.parse_values.specs.Into.{typeIn, valueIn}
-use Rattle.parse_fields.specs.Into.{tokenIn, nameIn, oneSeparatorIn, annotationIn, annotationListIn, annotationsIn, fieldIdIn, requiredOf, skipRequired, fieldNameIn, defaultIn, fieldHeadIn, fieldTailIn, fieldIn, skipMemberIn, membersIn}
+use Rattle.parse_fields.specs.Into.{tokenIn, nameIn, oneSeparatorIn, annotationIn, annotationListIn, annotationsIn, idIn, fieldIdIn, requiredOf, skipRequired, fieldNameIn, defaultIn, fieldHeadIn, fieldTailIn, fieldIn, skipMemberIn, membersIn}
 use Rattle.ast.specs.Records.{row}
 use Rattle.parser.proofs.KindLaws.{one-test, one-kind}
 use Rattle.steps.proofs.SkipLaws.{separator-test, separators-m, discard-m, comments-m}
@@ -109,7 +108,6 @@ use Rattle.steps.proofs.Seen.{
 use Rattle.steps.proofs.StepLaws.{
   tested,
   Wanted,
-  take-m,
   step-m,
   when-m,
   one-m,
@@ -237,23 +235,17 @@ module _ (text : List ℕ) (short : length text ≤ 65536) where
 
   -- ---- fields
 
-  id-by : {i b p : ℕ} {fr : Frame} {f : Forest} {st : State} {t u : List ℕ} {s : St} → At text i b p fr f st t u s
-      → (z : Bool) → eqb (st .kind) 32 ≡ z → peek (T.IntegerLiteral ∷ []) s ≡ z
-      → Meant (λ o. At text (suc i) b p fr (f ⊕ perhaps idTree o bare)) (fieldIdIn text b p st t u) (parseFieldId s)
-  unfolding fieldIdIn parseFieldId when test perhaps idTree single code
-  id-by {b = b} {p = p} {f = f} {st = st} h true k e =
-      rw e
-      (bind-m (take-m text short _ h) λ tok st₁ t₁ u₁ s₁ h₁. rw k
-      (cond-m _ _ s₁ _ (isId (bytes tok)) (ap (isIdAt text) (h₁ .at .last ∙ h₁ .there) ∙ h₁ .first .spelled)
+  field-id-m : {i b p : ℕ} {fr : Frame} {f : Forest} {st : State} {t u : List ℕ} {s : St} → At text i b p fr f st t u s
+      → Meant (λ o. At text i b p fr (f ⊕ perhaps idTree o bare)) (fieldIdIn text b p st t u) (parseFieldId s)
+  unfolding fieldIdIn idIn parseFieldId perhaps idTree single code
+  field-id-m {b = b} {p = p} {f = f} {st = st} {s = s} h =
+      one-m text short T.IntegerLiteral _ _ s h
+      (λ e. here-m {k = idIn text st b p} (step-m text short (T.IntegerLiteral ∷ []) s e h) λ tok st₁ t₁ u₁ s₁ h₁.
+      cond-m _ _ s₁ _ (isId (bytes tok)) (ap (isIdAt text) (h₁ .at .last ∙ h₁ .there) ∙ h₁ .first .spelled)
       (λ y. leafed 17 b p st₁ t₁ u₁ _
       (last-m (expect-m text short T.Colon _ 2 (leaf-at 17 tok (h₁ .at) (h₁ .there))) λ x st₂ t₂ u₂ s₂ h₂. went (fewer (omega arith) (h₂ .at))))
-      (λ y. refuse-at-m 9 st tok s₁ (h₁ .first))))
-  id-by {f = f} h false k e = rw e (bind-m (take-m text short _ h) λ tok st₁ t₁ u₁ s₁ h₁. rw k (went (regrown (sym (plus-bare f)) (less (h₁ .at)))))
-
-  field-id-m : {i b p : ℕ} {fr : Frame} {f : Forest} {st : State} {t u : List ℕ} {s : St} → At text i b p fr f st t u s
-      → Meant (λ o. At text (suc i) b p fr (f ⊕ perhaps idTree o bare)) (fieldIdIn text b p st t u) (parseFieldId s)
-  unfolding code
-  field-id-m {s = s} h = id-by h (peek (T.IntegerLiteral ∷ []) s) (tested s (one-test T.IntegerLiteral) (h .ahead)) refl
+      (λ y. refuse-at-m 9 st tok s₁ (h₁ .first)))
+      (λ e. went (regrown (sym (plus-bare f)) h))
 
   -- the state behind a requiredness that may be there, and its flag
   record Flagged (i b p : ℕ) (fr : Frame) (f : Forest) (before : State) (r : Required) (st : State) (t u : List ℕ) (s : St) : Type 0 where
@@ -314,9 +306,9 @@ module _ (text : List ℕ) (short : length text ≤ 65536) where
       (let l = span (startOf (emptied s)) (lastOf s₆) in
       let z : sum (requiredOf (st₁ .kind)) fl ≡ requiredFlag r + fl =
       small-sum (requiredOf (st₁ .kind)) fl (omega (arith, h₂ .flag, required-small r)) ∙ omega (arith, h₂ .flag) in
-      went (less
+      went
       (regrown (ap (λ (x : Tree). f ⊕ single x) (field-node fl l (waitingOf s) i r y m v a _ z))
-      (finish-at 12 (sum (requiredOf (st₁ .kind)) fl) (startOf (emptied s)) (startAt st) [] (waitingOf s) h h₆ (start-at (emptied s) o))))))))))
+      (finish-at 12 (sum (requiredOf (st₁ .kind)) fl) (startOf (emptied s)) (startAt st) [] (waitingOf s) h h₆ (start-at (emptied s) o)))))))))
 
   -- ---- members
 

@@ -43,12 +43,13 @@ annotationsIn text b p st t u =
 
 -- ---- fields
 
+-- behind an integer, which was ahead of `before`
+unfoldable pub idIn : List ℕ → State → ℕ → ℕ → M
+idIn text before b p st t u =
+    cond (isIdAt text (unpackedLoc (st .last))) ((leafIn K.FieldId b p ⨟ expectIn text T.Colon E.UnexpectedToken) st t u) (refused E.InvalidFieldId before)
+
 unfoldable pub fieldIdIn : List ℕ → ℕ → ℕ → M
-fieldIdIn text b p st t u =
-    after (takeIn text st t u)
-    (λ st₁ t u. cond (eqb (st .kind) T.IntegerLiteral)
-    (cond (isIdAt text (unpackedLoc (st₁ .last))) ((leafIn K.FieldId b p ⨟ expectIn text T.Colon E.UnexpectedToken) st₁ t u) (refused E.InvalidFieldId st))
-    (done st₁ t u))
+fieldIdIn text b p st t u = cond (eqb (st .kind) T.IntegerLiteral) (idIn text st b p (advanced text st) t u) (done st t u)
 
 unfoldable pub requiredOf : ℕ → ℕ
 requiredOf k = cond (eqb k T.Required) K.Required (cond (eqb k T.Optional) K.Optional 0)

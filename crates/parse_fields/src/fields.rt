@@ -14,27 +14,24 @@ use steps::state::Parsed;
 use steps::state::State;
 use steps::table;
 
-// parse_field_id; without an id the first token, of any kind, is passed over.
-// FieldId ::= integer ':' | token
+// parse_field_id; without an id no token is taken.
+// FieldId ::= (integer ':')?
 fn parse_field_id(
     lut: &[u8; 768],
     text: &[u8],
-    st: State,
+    first: State,
     parent: Parent,
     rest: &mut [u32],
 ) -> Parsed
     requires { ⌜ Lent (now lut) (now text) ⌝ }
-    ensures { λ r. ⌜ Quiet (fieldIdIn (now (text .entry)) (parent .base) (parent .node)) st r (now (rest .entry)) (now (rest .exit)) ⌝ }
+    ensures { λ r. ⌜ Quiet (fieldIdIn (now (text .entry)) (parent .base) (parent .node)) first r (now (rest .entry)) (now (rest .exit)) ⌝ }
 {
-    let taken = st.take(lut, text);
-    let Parsed::On(state) = taken else {
-        return taken;
-    };
-    if st.kind != token::kind::INTEGER_LITERAL {
-        return Parsed::On(state);
+    if first.kind != token::kind::INTEGER_LITERAL {
+        return Parsed::On(first);
     }
+    let state = first.advance(lut, text);
     if !id::is_id_at(text, state.last) {
-        return st.refuse(error::INVALID_FIELD_ID);
+        return first.refuse(error::INVALID_FIELD_ID);
     }
     let numbered = state.put_leaf(rest, ast::kind::FIELD_ID, parent);
     numbered.expect(lut, text, token::kind::COLON, error::UNEXPECTED_TOKEN)

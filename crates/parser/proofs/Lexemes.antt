@@ -553,7 +553,7 @@ module _ (Holds : Lexeme → Type 0) where
   field-id-e {s} g =
       when-e _ _ _ s
       (bind-e (next-e g) λ t s h g. test-e _ _ _ s (bind-e (want-e _ 2 g) λ x s y g. gives (esome h) g) (refuse-e 9 t s))
-      (bind-e (next-e g) λ t s h g. gives enone g)
+      (gives enone g)
 
   required-e : {s : St} → GoodE s → Gives Any (parseRequired s)
   unfolding parseRequired

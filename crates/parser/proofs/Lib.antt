@@ -9,3 +9,4 @@ pub mod Paid
 pub mod Idl
 pub mod KindLaws
 pub mod Said
+pub mod FirstToken

@@ -684,8 +684,7 @@ annotations-p s =
 
 -- ---- fields
 
--- and one record more, the field's
-pub field-id-p : (s : St) → Pays (λ i. 1 + sizes (perhaps idTree i bare)) (λ i. noteCounts (perhaps idTree i bare)) s (parseFieldId s)
+pub field-id-p : (s : St) → PaysForest (λ i. perhaps idTree i bare) s (parseFieldId s)
 unfolding parseFieldId
 field-id-p s =
     when-p _ _ _ s
@@ -693,7 +692,7 @@ field-id-p s =
     test-p _ _ _ s
     (bind-p (want-p _ 2 s) λ x s h2. pays (rw (of-some nodes, of-id nodes) (omega arith)) (rw (of-some comments, of-id comments) (omega arith)))
     (refuse-p 9 t s))
-    (bind-p (next-p s) λ t s h1. pays (rw (of-none nodes) (omega arith)) (rw (of-none comments) (omega arith)))
+    (pays (rw (of-none nodes) (omega arith)) (rw (of-none comments) (omega arith)))
 
 required-p : (s : St) → PaysNothing s (parseRequired s)
 unfolding parseRequired

@@ -23,7 +23,6 @@ use Rattle.ast.specs.Ast.{
   Struct,
   Union,
   Exception,
-  Definition,
   Include,
   CppInclude,
 }
@@ -80,7 +79,6 @@ use Rattle.parser.specs.Values.{
 }
 use Rattle.parser.specs.Definitions as D
 use Rattle.parser.specs.Definitions.{
-  nesting,
   parseType,
   parseValue,
   oneSeparator,
@@ -115,12 +113,7 @@ use Rattle.parser.specs.Definitions.{
 }
 use Rattle.ast.specs.Lists.{All, anil, acons}
 use Rattle.ast.proofs.Counts.{append-all}
-use Rattle.ast.specs.Numbered.{HasId, NumberedField, NumberedThrows, NumberedFunction, Numbered}
-use Rattle.parser.proofs.Wf.{commentKinds, most, Tok, WfType, wcommon, wlist, wset, wmap, WfValue, wleaf, wseq, wdict, WfElements, wnil, wcons, WfProperties, wpnil, wpcons, WfAnnotation, wannotation, WfAnnotations, wabsent, wannotations, WfId, wid, WfDefault, wnone, wsome, WfField, wfield, WfThrows, wquiet, wthrows, WfReturn, wvoid, wtype, WfFunction, wfunction, WfOption, wnothing, wjust, WfMember, wmember, WfDefinition, winclude, wcpp, wnamespace, wconst, wtypedef, wenum, wstructure, wservice}
-
-pub both : {A : Type 0} {U W : A → Type 0} {xs : List A} → All (λ x. U x → W x) xs → All U xs → All W xs
-both anil anil = anil
-both (acons f fs) (acons h hs) = acons (f h) (both fs hs)
+use Rattle.parser.proofs.Wf.{commentKinds, most, Tok, WfType, wcommon, wlist, wset, wmap, WfValue, wleaf, wseq, wdict, WfElements, wnil, wcons, WfProperties, wpnil, wpcons, WfAnnotation, wannotation, WfAnnotations, wabsent, wannotations, WfId, wnoid, wid, WfDefault, wnone, wsome, WfField, wfield, WfThrows, wquiet, wthrows, WfReturn, wvoid, wtype, WfFunction, wfunction, WfOption, wnothing, wjust, WfMember, wmember, WfDefinition, winclude, wcpp, wnamespace, wconst, wtypedef, wenum, wstructure, wservice}
 
 -- the place of the last of the tokens, and l if there are none
 unfoldable pub final : LOC → List Lexeme → LOC
@@ -166,10 +159,6 @@ Any a = Unit {0}
 pub record Some {A : Type 0} (U : A → Type 0) (n : ℕ) (xs : List A) : Type 0 where
   pub each : All U xs
   pub few : length xs < n
-
--- a definition whose fields are numbered is well formed
-abbrev pub Read : (Token → List ℕ → Type 0) → Definition → Type 0
-Read Good d = Numbered d → WfDefinition Good d
 
 module _ (Good : Token → List ℕ → Type 0) (Last : LOC → Type 0) where
   -- the comments that wait are comments, every token left is good, and so is the last place; no reader changes that place
@@ -426,13 +415,13 @@ module _ (Good : Token → List ℕ → Type 0) (Last : LOC → Type 0) where
 
   -- ---- fields
 
-  field-id-s : {s : St} → GoodS s → Sure (λ i. HasId i → WfId Good i) (parseFieldId s)
+  field-id-s : {s : St} → GoodS s → Sure (WfId Good) (parseFieldId s)
   unfolding parseFieldId
   field-id-s {s} g =
       when-s _ _ _ s
       (λ e. bind-s (next-is (T.IntegerLiteral ∷ []) g e) λ t s h g.
-      test-s _ _ _ s (λ o. bind-s (want-s _ 2 g) λ x s y g. sure (λ u. wid h o) g) (λ o. refuse-s 9 t s))
-      (bind-s (next-s g) λ t s h g. sure (λ u. absurd u) g)
+      test-s _ _ _ s (λ o. bind-s (want-s _ 2 g) λ x s y g. sure (wid h o) g) (λ o. refuse-s 9 t s))
+      (sure wnoid g)
 
   required-s : {s : St} → GoodS s → Sure Any (parseRequired s)
   unfolding parseRequired
@@ -443,12 +432,12 @@ module _ (Good : Token → List ℕ → Type 0) (Last : LOC → Type 0) where
   unfolding parseDefault
   default-s {s} g = when-s _ _ _ s (λ e. bind-s (next-s g) λ t s h g. bind-s (parse-value-s g) λ v s hv g. sure (wsome hv) g) (sure wnone g)
 
-  pub field-s : (s : St) → GoodS s → Sure (λ f. NumberedField f → WfField Good f) (parseField s)
+  pub field-s : (s : St) → GoodS s → Sure (WfField Good) (parseField s)
   unfolding parseField
   field-s s g =
       bind-s (taken-s g) λ c s hc g. bind-s (start-s g) λ p s y g. bind-s (field-id-s g) λ i s hi g. bind-s (required-s g) λ r s y g.
       bind-s (parse-type-s g) λ t s ht g. bind-s (want-s fieldNames 8 g) λ m s hm g. bind-s (default-s g) λ v s hv g.
-      bind-s (annotations-s g) λ a s ha g. bind-s (here-s g) λ x s y g. sure (λ u. wfield hc (hi u) ht hm hv ha) g
+      bind-s (annotations-s g) λ a s ha g. bind-s (here-s g) λ x s y g. sure (wfield hc hi ht hm hv ha) g
 
   members-end-s : (k : Token) (s : St) → GoodS s → Sure Any (membersEnd k s)
   unfolding membersEnd
@@ -459,18 +448,18 @@ module _ (Good : Token → List ℕ → Type 0) (Last : LOC → Type 0) where
   unfolding parseMembers
   members-s U l r p hp g = bind-s (want-s _ 2 g) λ x s y g. list-s U (membersEnd r) p (members-end-s r) hp g
 
-  pub parameters-s : {s : St} → GoodS s → Sure (Some (λ f. NumberedField f → WfField Good f) most) (parseParameters s)
+  pub parameters-s : {s : St} → GoodS s → Sure (Some (WfField Good) most) (parseParameters s)
   unfolding parseParameters
-  parameters-s = members-s (λ f. NumberedField f → WfField Good f) T.LeftParen T.RightParen parseField field-s
+  parameters-s = members-s (WfField Good) T.LeftParen T.RightParen parseField field-s
 
   -- ---- functions
 
-  throws-s : {s : St} → GoodS s → Sure (λ th. NumberedThrows th → WfThrows Good th) (parseThrows s)
+  throws-s : {s : St} → GoodS s → Sure (WfThrows Good) (parseThrows s)
   unfolding parseThrows
   throws-s {s} g =
       when-s _ _ _ s
-      (λ e. bind-s (next-s g) λ t s h g. bind-s (parameters-s g) λ fs s hf g. sure (λ u. wthrows (both (hf .each) u) (hf .few)) g)
-      (sure (λ u. wquiet) g)
+      (λ e. bind-s (next-s g) λ t s h g. bind-s (parameters-s g) λ fs s hf g. sure (wthrows (hf .each) (hf .few)) g)
+      (sure wquiet g)
 
   return-type-s : {s : St} → GoodS s → Sure (WfReturn Good) (parseReturnType s)
   unfolding parseReturnType
@@ -481,13 +470,13 @@ module _ (Good : Token → List ℕ → Type 0) (Last : LOC → Type 0) where
   unfolding parseOneway
   oneway-s {s} g = when-s _ _ _ s (λ e. bind-s (next-s g) λ t s h g. sure tt g) (sure tt g)
 
-  pub function-s : (s : St) → GoodS s → Sure (λ f. NumberedFunction f → WfFunction Good f) (parseFunction s)
+  pub function-s : (s : St) → GoodS s → Sure (WfFunction Good) (parseFunction s)
   unfolding parseFunction
   function-s s g =
       bind-s (taken-s g) λ c s hc g. bind-s (oneway-s g) λ o s y g. bind-s (return-type-s g) λ t s ht g. bind-s (want-s _ 2 g) λ m s hm g.
       bind-s (parameters-s g) λ ps s hp g. bind-s (throws-s g) λ th s hth g. bind-s (trivia-s g) λ x s y g.
       bind-s (annotations-s g) λ a s ha g. bind-s (here-s g) λ x s y g.
-      sure (λ u. wfunction hc ht hm (both (hp .each) (u .0)) (hp .few) (hth (u .1)) ha) g
+      sure (wfunction hc ht hm (hp .each) (hp .few) hth ha) g
 
   -- ---- enum members
 
@@ -503,59 +492,59 @@ module _ (Good : Token → List ℕ → Type 0) (Last : LOC → Type 0) where
 
   -- ---- definitions
 
-  include-s : {s : St} → GoodS s → Sure (Read Good) (parseInclude Include s)
+  include-s : {s : St} → GoodS s → Sure (WfDefinition Good) (parseInclude Include s)
   unfolding parseInclude
-  include-s g = bind-s (taken-s g) λ c s hc g. bind-s (next-s g) λ k s y g. bind-s (want-s _ 12 g) λ m s hm g. sure (λ u. winclude hc hm) g
+  include-s g = bind-s (taken-s g) λ c s hc g. bind-s (next-s g) λ k s y g. bind-s (want-s _ 12 g) λ m s hm g. sure (winclude hc hm) g
 
-  cpp-include-s : {s : St} → GoodS s → Sure (Read Good) (parseInclude CppInclude s)
+  cpp-include-s : {s : St} → GoodS s → Sure (WfDefinition Good) (parseInclude CppInclude s)
   unfolding parseInclude
-  cpp-include-s g = bind-s (taken-s g) λ c s hc g. bind-s (next-s g) λ k s y g. bind-s (want-s _ 12 g) λ m s hm g. sure (λ u. wcpp hc hm) g
+  cpp-include-s g = bind-s (taken-s g) λ c s hc g. bind-s (next-s g) λ k s y g. bind-s (want-s _ 12 g) λ m s hm g. sure (wcpp hc hm) g
 
-  namespace-s : {s : St} → GoodS s → Sure (Read Good) (parseNamespace s)
+  namespace-s : {s : St} → GoodS s → Sure (WfDefinition Good) (parseNamespace s)
   unfolding parseNamespace
   namespace-s g =
       bind-s (taken-s g) λ c s hc g. bind-s (next-s g) λ k s y g. bind-s (want-s _ 11 g) λ x s hx g. bind-s (want-s _ 10 g) λ m s hm g.
-      sure (λ u. wnamespace hc hx hm) g
+      sure (wnamespace hc hx hm) g
 
-  const-s : {s : St} → GoodS s → Sure (Read Good) (parseConst s)
+  const-s : {s : St} → GoodS s → Sure (WfDefinition Good) (parseConst s)
   unfolding parseConst
   const-s g =
       bind-s (taken-s g) λ c s hc g. bind-s (next-s g) λ k s y g. bind-s (parse-type-s g) λ t s ht g. bind-s (want-s _ 13 g) λ m s hm g.
       bind-s (want-s _ 2 g) λ x s y g. bind-s (parse-value-s g) λ v s hv g. bind-s (here-s g) λ x s y g. bind-s (trivia-s g) λ x s y g.
-      sure (λ u. wconst hc ht hm hv) g
+      sure (wconst hc ht hm hv) g
 
-  typedef-s : {s : St} → GoodS s → Sure (Read Good) (parseTypedef s)
+  typedef-s : {s : St} → GoodS s → Sure (WfDefinition Good) (parseTypedef s)
   unfolding parseTypedef
   typedef-s g =
       bind-s (taken-s g) λ c s hc g. bind-s (next-s g) λ k s y g. bind-s (parse-type-s g) λ t s ht g. bind-s (want-s _ 14 g) λ m s hm g.
-      sure (λ u. wtypedef hc ht hm) g
+      sure (wtypedef hc ht hm) g
 
-  enum-s : {s : St} → GoodS s → Sure (Read Good) (parseEnum s)
+  enum-s : {s : St} → GoodS s → Sure (WfDefinition Good) (parseEnum s)
   unfolding parseEnum
   enum-s g =
       bind-s (taken-s g) λ c s hc g. bind-s (next-s g) λ k s y g. bind-s (want-s _ 15 g) λ m s hm g.
       bind-s (members-s (WfMember Good) T.LeftBrace T.RightBrace parseEnumMember member-s g) λ xs s hx g.
-      bind-s (annotations-s g) λ a s ha g. bind-s (here-s g) λ x s y g. sure (λ u. wenum hc hm (hx .each) (hx .few) ha) g
+      bind-s (annotations-s g) λ a s ha g. bind-s (here-s g) λ x s y g. sure (wenum hc hm (hx .each) (hx .few) ha) g
 
-  structure-s : (k : Structure) {s : St} → GoodS s → Sure (Read Good) (parseStructure k s)
+  structure-s : (k : Structure) {s : St} → GoodS s → Sure (WfDefinition Good) (parseStructure k s)
   unfolding parseStructure
   structure-s k g =
       bind-s (taken-s g) λ c s hc g. bind-s (next-s g) λ k s y g. bind-s (want-s _ 16 g) λ m s hm g.
-      bind-s (members-s (λ f. NumberedField f → WfField Good f) T.LeftBrace T.RightBrace parseField field-s g) λ fs s hf g.
-      bind-s (annotations-s g) λ a s ha g. bind-s (here-s g) λ x s y g. sure (λ u. wstructure hc hm (both (hf .each) u) (hf .few) ha) g
+      bind-s (members-s (WfField Good) T.LeftBrace T.RightBrace parseField field-s g) λ fs s hf g.
+      bind-s (annotations-s g) λ a s ha g. bind-s (here-s g) λ x s y g. sure (wstructure hc hm (hf .each) (hf .few) ha) g
 
   extends-s : {s : St} → GoodS s → Sure (WfOption Good (T.Identifier ∷ [])) (parseExtends s)
   unfolding parseExtends
   extends-s {s} g = when-s _ _ _ s (λ e. bind-s (next-s g) λ x s y g. bind-s (want-s _ 18 g) λ t s h g. sure (wjust h) g) (sure wnothing g)
 
-  service-s : {s : St} → GoodS s → Sure (Read Good) (parseService s)
+  service-s : {s : St} → GoodS s → Sure (WfDefinition Good) (parseService s)
   unfolding parseService
   service-s g =
       bind-s (taken-s g) λ c s hc g. bind-s (next-s g) λ k s y g. bind-s (want-s _ 17 g) λ m s hm g. bind-s (extends-s g) λ x s hx g.
-      bind-s (members-s (λ f. NumberedFunction f → WfFunction Good f) T.LeftBrace T.RightBrace parseFunction function-s g) λ fs s hf g.
-      bind-s (annotations-s g) λ a s ha g. bind-s (here-s g) λ e s y g. sure (λ u. wservice hc hm hx (both (hf .each) u) (hf .few) ha) g
+      bind-s (members-s (WfFunction Good) T.LeftBrace T.RightBrace parseFunction function-s g) λ fs s hf g.
+      bind-s (annotations-s g) λ a s ha g. bind-s (here-s g) λ e s y g. sure (wservice hc hm hx (hf .each) (hf .few) ha) g
 
-  pub definition-s : (s : St) → GoodS s → Sure (Read Good) (parseDefinition s)
+  pub definition-s : (s : St) → GoodS s → Sure (WfDefinition Good) (parseDefinition s)
   unfolding parseDefinition
   definition-s s g =
       when-s _ _ _ s (λ e. include-s g)
@@ -580,6 +569,6 @@ module _ (Good : Token → List ℕ → Type 0) (Last : LOC → Type 0) where
   unfolding documentEnd
   document-end-s s g = bind-s (separator-s g) λ u s v g. bind-s (comments-s g) λ u s v g. bind-s (separator-s g) λ u s v g. over-s g
 
-  pub document-s : {s : St} → GoodS s → Sure (Some (Read Good) most) (parseDocument s)
+  pub document-s : {s : St} → GoodS s → Sure (Some (WfDefinition Good) most) (parseDocument s)
   unfolding parseDocument
-  document-s = list-s (Read Good) documentEnd parseDefinition document-end-s definition-s
+  document-s = list-s (WfDefinition Good) documentEnd parseDefinition document-end-s definition-s

@@ -99,6 +99,7 @@ module _ (Good : Token → List ℕ → Type 0) where
     wannotations : {l : LOC} {xs : List Annotation} → All WfAnnotation xs → length xs < most → WfAnnotations (annotations l xs)
 
   pub data WfId : Option Lexeme → Type 0 where
+    wnoid : WfId none
     wid : {t : Lexeme} → Tok (T.IntegerLiteral ∷ []) t → isId (bytes t) ≡ true → WfId (some t)
 
   pub data WfDefault : Option FieldInitialValue → Type 0 where

@@ -101,15 +101,19 @@ unfoldable pub isId : List ℕ → Bool
 isId [] = false
 isId (c ∷ w) = not (eqb c 45) && ltb (cond (eqb c 43) (decimal 0 w) (decimal 0 (c ∷ w))) (2 ^ 64)
 
--- parse_field_id; without an id the first token, of any kind, is passed over
--- FieldId ::= integer ':' | token
-unfoldable pub parseFieldId : P (Option Lexeme)
-parseFieldId =
+-- parse_field_id: an integer is the id, and `:` must follow; at any other token, or none, the steps go on with `other`
+abbrev pub idOr : P (Option Lexeme) → P (Option Lexeme)
+idOr other =
     when (T.IntegerLiteral ∷ [])
     (do
       t ← next
       test (isId (bytes t)) (do want (T.Colon ∷ []) UnexpectedToken; pure (some t)) (refuse InvalidFieldId t))
-    (do next; pure none)
+    other
+
+-- THE FIELD RULE: without an id no token is taken (document 02, Change 4; rico's own rule is in `rico/specs/Fields`)
+-- FieldId ::= integer ':'
+unfoldable pub parseFieldId : P (Option Lexeme)
+parseFieldId = idOr (pure none)
 
 -- Required ::= 'required' | 'optional'
 unfoldable pub parseRequired : P Required
@@ -127,7 +131,7 @@ fieldNames =
 unfoldable pub parseDefault : P (Option FieldInitialValue)
 parseDefault = when (T.Equals ∷ []) (do next; v ← parseValue; pure (some v)) (pure none)
 
--- Field ::= FieldId Required? Type FieldName Default? Annotations?
+-- Field ::= FieldId? Required? Type FieldName Default? Annotations?
 unfoldable pub parseField : P Field
 parseField = do
   c ← taken

@@ -8,7 +8,6 @@ use Rattle.token.specs.Regex.{bytes}
 use Rattle.lexer.specs.Outcome.{Outcome, accepted, refused}
 use Rattle.ast.specs.Ast.{Definition}
 use Rattle.ast.specs.Records.{nodeRows, notes}
-use Rattle.parser.specs.Read.{outcome}
 
 -- a text, and what a reading with room enough answers: number, place and length; or the records of nodes and of comments;
 -- or line and column of the last node record's start
@@ -30,14 +29,15 @@ abbrev pub Stands : Outcome (List Definition) → ℕ → ℕ → Type 0
 Stands (accepted ds) l c = let r = lastOf (nodeRows ds) in (getD r 4 0 ≡ l) × (getD r 5 0 ≡ c)
 Stands (refused e p n) l c = ⊥
 
-abbrev pub Holds : Edge → Type 0
-Holds (refuses s e p n) = outcome (bytes s) ≡ refused e p n
-Holds (accepts s ns cs) = Meets (outcome (bytes s)) ns cs
-Holds (lastAt s l c) = Stands (outcome (bytes s)) l c
+-- what an edge says of a way of reading
+abbrev pub Holds : (List ℕ → Outcome (List Definition)) → Edge → Type 0
+Holds reads (refuses s e p n) = reads (bytes s) ≡ refused e p n
+Holds reads (accepts s ns cs) = Meets (reads (bytes s)) ns cs
+Holds reads (lastAt s l c) = Stands (reads (bytes s)) l c
 
-abbrev pub All : List Edge → Type 0
-All [] = Unit
-All (e ∷ es) = Holds e × All es
+abbrev pub All : (List ℕ → Outcome (List Definition)) → List Edge → Type 0
+All reads [] = Unit
+All reads (e ∷ es) = Holds reads e × All reads es
 
 abbrev pub edges : List Edge
 edges =
@@ -50,11 +50,13 @@ edges =
     -- `struct A {` gives 3 at 9, length 1; with a newline after it, 1
     ∷ refuses "struct A {" 3 9 1
     ∷ refuses "struct A {\n" 1 9 1
-    -- `struct A{required i32 a}`: accepted, flags 0; `struct A{i32 a}`: 8 at 14, length 1
+    -- `struct A{required i32 a}`: accepted, flag 1; `struct A{i32 a}`: accepted, 5 nodes (document 02, Change 4)
     ∷ accepts "struct A{required i32 a}"
-    ((7 ∷ 4294967295 ∷ 0 ∷ 0 ∷ 1 ∷ 1 ∷ 24 ∷ 1 ∷ 25 ∷ []) ∷ (16 ∷ 0 ∷ 0 ∷ 7 ∷ 1 ∷ 8 ∷ 8 ∷ 1 ∷ 9 ∷ []) ∷ (12 ∷ 0 ∷ 0 ∷ 9 ∷ 1 ∷ 10 ∷ 23 ∷ 1 ∷ 24 ∷ []) ∷ (18 ∷ 2 ∷ 0 ∷ 18 ∷ 1 ∷ 19 ∷ 21 ∷ 1 ∷ 22 ∷ []) ∷ (16 ∷ 2 ∷ 0 ∷ 22 ∷ 1 ∷ 23 ∷ 23 ∷ 1 ∷ 24 ∷ []) ∷ [])
+    ((7 ∷ 4294967295 ∷ 0 ∷ 0 ∷ 1 ∷ 1 ∷ 24 ∷ 1 ∷ 25 ∷ []) ∷ (16 ∷ 0 ∷ 0 ∷ 7 ∷ 1 ∷ 8 ∷ 8 ∷ 1 ∷ 9 ∷ []) ∷ (12 ∷ 0 ∷ 1 ∷ 9 ∷ 1 ∷ 10 ∷ 23 ∷ 1 ∷ 24 ∷ []) ∷ (18 ∷ 2 ∷ 0 ∷ 18 ∷ 1 ∷ 19 ∷ 21 ∷ 1 ∷ 22 ∷ []) ∷ (16 ∷ 2 ∷ 0 ∷ 22 ∷ 1 ∷ 23 ∷ 23 ∷ 1 ∷ 24 ∷ []) ∷ [])
     []
-    ∷ refuses "struct A{i32 a}" 8 14 1
+    ∷ accepts "struct A{i32 a}"
+    ((7 ∷ 4294967295 ∷ 0 ∷ 0 ∷ 1 ∷ 1 ∷ 15 ∷ 1 ∷ 16 ∷ []) ∷ (16 ∷ 0 ∷ 0 ∷ 7 ∷ 1 ∷ 8 ∷ 8 ∷ 1 ∷ 9 ∷ []) ∷ (12 ∷ 0 ∷ 0 ∷ 9 ∷ 1 ∷ 10 ∷ 14 ∷ 1 ∷ 15 ∷ []) ∷ (18 ∷ 2 ∷ 0 ∷ 9 ∷ 1 ∷ 10 ∷ 12 ∷ 1 ∷ 13 ∷ []) ∷ (16 ∷ 2 ∷ 0 ∷ 13 ∷ 1 ∷ 14 ∷ 14 ∷ 1 ∷ 15 ∷ []) ∷ [])
+    []
     -- `enum E{A=`: 3 at 8, length 1
     ∷ refuses "enum E{A=" 3 8 1
     -- id `-1`: 9 at 9, length 2; 18446744073709551615 passes, one more is 9
@@ -106,4 +108,23 @@ edges =
     -- in a block comment a lone `\r` or `\f` is nothing
     ∷ lastAt "/*\r*/enum E{}" 1 11
     ∷ lastAt "/*\u{c}*/enum E{}" 1 11
+    -- Change 4: a token that starts no type is 4 there, behind an id or requiredness too; so a separator behind a comment still is
+    ∷ refuses "struct A{)i8 a}" 4 9 1
+    ∷ refuses "struct A{required}" 4 17 1
+    ∷ refuses "struct A{optional required i8 a}" 4 18 8
+    ∷ refuses "struct A{1:/*c*/i8 a}" 4 11 5
+    ∷ refuses "struct A{required/*c*/i8 a}" 4 17 5
+    ∷ refuses "struct A{#\n;i8 a}" 4 11 1
+    ∷ refuses "struct A{1:i8 a #c\n,2:i8 b}" 4 19 1
+    -- an id has its colon
+    ∷ refuses "struct A{1 i8 a}" 2 11 2
+    -- parameters and thrown fields alike
+    ∷ accepts "service S{void f(i8 a)}"
+    ((10 ∷ 4294967295 ∷ 0 ∷ 0 ∷ 1 ∷ 1 ∷ 23 ∷ 1 ∷ 24 ∷ []) ∷ (16 ∷ 0 ∷ 0 ∷ 8 ∷ 1 ∷ 9 ∷ 9 ∷ 1 ∷ 10 ∷ []) ∷ (11 ∷ 0 ∷ 0 ∷ 15 ∷ 1 ∷ 16 ∷ 22 ∷ 1 ∷ 23 ∷ []) ∷ (18 ∷ 2 ∷ 0 ∷ 10 ∷ 1 ∷ 11 ∷ 14 ∷ 1 ∷ 15 ∷ []) ∷ (16 ∷ 2 ∷ 0 ∷ 15 ∷ 1 ∷ 16 ∷ 16 ∷ 1 ∷ 17 ∷ []) ∷ (12 ∷ 2 ∷ 0 ∷ 17 ∷ 1 ∷ 18 ∷ 21 ∷ 1 ∷ 22 ∷ []) ∷ (18 ∷ 5 ∷ 0 ∷ 17 ∷ 1 ∷ 18 ∷ 19 ∷ 1 ∷ 20 ∷ []) ∷ (16 ∷ 5 ∷ 0 ∷ 20 ∷ 1 ∷ 21 ∷ 21 ∷ 1 ∷ 22 ∷ []) ∷ [])
+    []
+    ∷ accepts "service S{void f()throws(required E e)}"
+    ((10 ∷ 4294967295 ∷ 0 ∷ 0 ∷ 1 ∷ 1 ∷ 39 ∷ 1 ∷ 40 ∷ []) ∷ (16 ∷ 0 ∷ 0 ∷ 8 ∷ 1 ∷ 9 ∷ 9 ∷ 1 ∷ 10 ∷ []) ∷ (11 ∷ 0 ∷ 8 ∷ 15 ∷ 1 ∷ 16 ∷ 38 ∷ 1 ∷ 39 ∷ []) ∷ (18 ∷ 2 ∷ 0 ∷ 10 ∷ 1 ∷ 11 ∷ 14 ∷ 1 ∷ 15 ∷ []) ∷ (16 ∷ 2 ∷ 0 ∷ 15 ∷ 1 ∷ 16 ∷ 16 ∷ 1 ∷ 17 ∷ []) ∷ (12 ∷ 2 ∷ 17 ∷ 25 ∷ 1 ∷ 26 ∷ 37 ∷ 1 ∷ 38 ∷ []) ∷ (19 ∷ 5 ∷ 0 ∷ 34 ∷ 1 ∷ 35 ∷ 35 ∷ 1 ∷ 36 ∷ []) ∷ (16 ∷ 5 ∷ 0 ∷ 36 ∷ 1 ∷ 37 ∷ 37 ∷ 1 ∷ 38 ∷ []) ∷ [])
+    []
+    ∷ refuses "service S{void f(=i8 a)}" 4 17 1
+    ∷ refuses "service S{void f()throws(=E e)}" 4 25 1
     ∷ []

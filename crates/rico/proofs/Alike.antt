@@ -24,7 +24,7 @@ use Rattle.parser.specs.Read.{endRule, answered}
 use Rattle.parser.proofs.Same.{moveS, moveR, document-moved}
 use Rattle.writer.specs.Print.{printed}
 use Rattle.writer.proofs.Places.{print-move}
-use Rattle.rico.specs.Lines.{unlinedOutcome, Alike}
+use Rattle.rico.specs.Reading.{unlinedOutcome, Alike}
 
 -- ---- what is answered
 

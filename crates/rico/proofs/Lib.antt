@@ -1,3 +1,5 @@
 pub mod Alike
 pub mod Lines
+pub mod Fields
+pub mod Reading
 pub mod Cases

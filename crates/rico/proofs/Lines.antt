@@ -1,8 +1,6 @@
 -- How far the line rule of document 02's Change 1 and rico's are equal.
 --     same-tokens    in a text without the pair every token has the place that rico gives it
---     same-outcome   and so has every definition
 --     alike-tokens   in every text the tokens have the same kinds, bytes and indexes
---     alike          so what is refused, read and printed is the same, but for lines and columns of the records
 use mathlib.Core.Path.{_≡_, refl, sym, ap, _∙_}
 use mathlib.Core.Bool.{Bool, true, false, cond, _||_, and-true, false≢true}
 use mathlib.Core.List.{List, [], _∷_, _++_}
@@ -16,20 +14,16 @@ use Rattle.token.specs.declared.Token.the-variants as T
 use Rattle.token.specs.declared.Scan.{Scan}
 use Rattle.token.specs.declared.Scan.the-variants.{Miss, Hit}
 use Rattle.lexer.specs.declared.location.Lexer.{Lexer}
-use Rattle.lexer.specs.Outcome.{Outcome, accepted, refused}
 use Rattle.lexer.specs.Cuts.{Cuts, end, stuck, cut, cuts}
 use Rattle.lexer.specs.Location as L
 use Rattle.lexer.specs.Location.{pair, hasPair, behind, between, spanOf, opening}
 use Rattle.lexer.specs.Tokens as K
 use Rattle.lexer.specs.Tokens.{lexeme, skipped}
-use Rattle.lexer.specs.Check.{checked}
 use Rattle.lexer.proofs.PlaceLaws.{behind-at}
 use Rattle.lexer.proofs.CutLaws as CutLaws
 use Rattle.lexer.proofs.CutLaws.{hit-fits, cuts-nil, cuts-miss, cuts-hit}
-use Rattle.parser.specs.Read as R
 use Rattle.ast.specs.Move.{moveLoc, moveL, moves, unlined}
-use Rattle.rico.specs.Lines.{endsLine, pass, lexemes, tokens, outcomeBy, outcome, unlinedOutcome, Alike}
-use Rattle.rico.proofs.Alike.{answered-alike, outcomes-alike}
+use Rattle.rico.specs.Lines.{endsLine, pass, lexemes, tokens}
 
 -- ---- the cuts of a text are its parts
 
@@ -97,15 +91,6 @@ module _ (t : List ℕ) (e : hasPair t ≡ false) where
   unfolding K.tokens tokens opening
   same-tokens = same-lexemes (cuts t) t _ (parts t) e
 
-  same-by : (c : Outcome (List ℕ)) → R.outcomeBy c t ≡ outcomeBy c t
-  unfolding R.outcomeBy R.parsed outcomeBy
-  same-by (accepted ns) = rw same-tokens
-  same-by (refused n p l) = refl
-
-  pub same-outcome : R.outcome t ≡ outcome t
-  unfolding R.outcome outcome
-  same-outcome = same-by (checked t)
-
 -- ---- every text
 
 pass-at : (w : List ℕ) (k : Token) (s : Lexer) → pass w k s .at ≡ s .at + length w
@@ -139,15 +124,3 @@ alike-lexemes (cut k w r cs) s u a =
 pub alike-tokens : (t : List ℕ) → moves unlined (K.tokens t opening) ≡ moves unlined (tokens t)
 unfolding K.tokens tokens opening
 alike-tokens t = alike-lexemes (cuts t) _ _ refl
-
-alike-by : (c : Outcome (List ℕ)) (t : List ℕ) → unlinedOutcome (R.outcomeBy c t) ≡ unlinedOutcome (outcomeBy c t)
-unfolding R.outcomeBy R.parsed outcomeBy
-alike-by (accepted ns) t = answered-alike (K.tokens t opening) (tokens t) (alike-tokens t) t
-alike-by (refused n p l) t = refl
-
-pub alike-outcome : (t : List ℕ) → unlinedOutcome (R.outcome t) ≡ unlinedOutcome (outcome t)
-unfolding R.outcome outcome
-alike-outcome t = alike-by (checked t) t
-
-pub alike : (t : List ℕ) → Alike (R.outcome t) (outcome t)
-alike t = outcomes-alike (R.outcome t) (outcome t) (alike-outcome t)

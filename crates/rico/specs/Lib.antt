@@ -1,1 +1,3 @@
 pub mod Lines
+pub mod Fields
+pub mod Reading

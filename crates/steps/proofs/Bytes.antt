@@ -2,7 +2,7 @@
 --     advance-falls       a token ahead, one token further: fewer bytes are left
 --     Within              a refusal, or a state with at least x bytes fewer than b
 --     Falls, Rests        of a reader: each time it answers it leaves fewer bytes; or no more
---     falls-rests, fall-rest, rest-rest       of one behind another
+--     falls-rests, fall-rest, rest-fall, rest-rest       of one behind another
 --     after-w, cond-w, cond-known, weak-w     through a call and what follows it, and a test
 --     opened-w, advanced-w        behind a node that is begun, and behind the token ahead
 --     rested, fell        the same by the call that returned the state, or answered; quiet-left, still-left: by its contract
@@ -146,6 +146,9 @@ module _ {text : List ℕ} where
 
   pub fall-rest : {m k : M} → Falls text m → Rests text k → Falls text (m ⨟ k)
   fall-rest f g st t u = after-w (f st t u) λ st₁ t₁ u₁ h. weak-w (λ n i. omega arith) (g st₁ t₁ u₁)
+
+  pub rest-fall : {m k : M} → Rests text m → Falls text k → Falls text (m ⨟ k)
+  rest-fall f g st t u = after-w (f st t u) λ st₁ t₁ u₁ h. weak-w (λ n i. omega arith) (g st₁ t₁ u₁)
 
   pub rest-rest : {m k : M} → Rests text m → Rests text k → Rests text (m ⨟ k)
   rest-rest f g st t u = after-w (f st t u) λ st₁ t₁ u₁ h. weak-w (λ n i. omega arith) (g st₁ t₁ u₁)

@@ -91,7 +91,7 @@ use Rattle.writer.specs.Print.{
   pieces,
 }
 use Rattle.ast.specs.Lists.{All, anil, acons}
-use Rattle.parser.proofs.Wf.{commentKinds, Tok, WfType, wcommon, wlist, wset, wmap, WfValue, wleaf, wseq, wdict, WfElements, wnil, wcons, WfProperties, wpnil, wpcons, WfAnnotation, wannotation, WfAnnotations, wabsent, wannotations, WfId, wid, WfDefault, wnone, wsome, WfField, wfield, WfThrows, wquiet, wthrows, WfReturn, wvoid, wtype, WfFunction, wfunction, WfOption, wnothing, wjust, WfMember, wmember, WfDefinition, winclude, wcpp, wnamespace, wconst, wtypedef, wenum, wstructure, wservice}
+use Rattle.parser.proofs.Wf.{commentKinds, Tok, WfType, wcommon, wlist, wset, wmap, WfValue, wleaf, wseq, wdict, WfElements, wnil, wcons, WfProperties, wpnil, wpcons, WfAnnotation, wannotation, WfAnnotations, wabsent, wannotations, WfId, wnoid, wid, WfDefault, wnone, wsome, WfField, wfield, WfThrows, wquiet, wthrows, WfReturn, wvoid, wtype, WfFunction, wfunction, WfOption, wnothing, wjust, WfMember, wmember, WfDefinition, winclude, wcpp, wnamespace, wconst, wtypedef, wenum, wstructure, wservice}
 use Rattle.writer.proofs.Toks.{
   Blanks,
   bnil,
@@ -415,6 +415,7 @@ required-apart optional r g = word-apart optional-good refl refl (spaced g)
 
 id-apart : {i : Option Lexeme} → WfId Good i → (r : List Piece) → Sep r → Sep (writeId i r)
 unfolding writeId bytesOf is code
+id-apart wnoid r g = g
 id-apart (wid h k) r g = own-apart h refl refl (smark colon (spaced g))
 
 pub param-apart : (f : Field) → WfField Good f → (r : List Piece) → Break r → Sep r → Sep (writeParam f r)

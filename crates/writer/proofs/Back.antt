@@ -23,11 +23,11 @@ use Rattle.parser.specs.Steps.{kind, place, St, pos, Res, ok, P, bind, test, pe
 use Rattle.parser.specs.Types.{leafTypes, containerTypes, complexType, mapType, containerType, typeBy, fieldType}
 use Rattle.parser.specs.Values.{leafValues, openers, valuesEnd, property, put, mapProperty, listValue, mapValue, containerValue, valueBy, fieldValue}
 use Rattle.parser.specs.Definitions as D
-use Rattle.parser.specs.Definitions.{nesting, parseType, parseValue, oneSeparator, parseAnnotation, annotationsEnd, parseAnnotations, parseFieldId, parseRequired, parseDefault, parseField, membersEnd, parseMembers, parseParameters, parseThrows, parseReturnType, parseOneway, parseFunction, parseInitializer, parseEnumMember, parseInclude, parseNamespace, parseConst, parseTypedef, parseEnum, parseStructure, parseExtends, parseService, parseDefinition, documentEnd, parseDocument}
+use Rattle.parser.specs.Definitions.{parseType, parseValue, oneSeparator, parseAnnotation, annotationsEnd, parseAnnotations, parseFieldId, parseRequired, parseDefault, parseField, membersEnd, parseMembers, parseParameters, parseThrows, parseReturnType, parseOneway, parseFunction, parseInitializer, parseEnumMember, parseInclude, parseNamespace, parseConst, parseTypedef, parseEnum, parseStructure, parseExtends, parseService, parseDefinition, documentEnd, parseDocument}
 use Rattle.parser.proofs.Same.{kind-bare, bytes-bare, place-bare, span-nowhere}
 use Rattle.parser.proofs.KindLaws.{either}
 use Rattle.parser.proofs.Loops.{loop-end, loop-more}
-use Rattle.parser.proofs.Wf.{commentKinds, most, Tok, WfType, wcommon, wlist, wset, wmap, WfValue, wleaf, wseq, wdict, WfElements, wnil, wcons, WfProperties, wpnil, wpcons, WfAnnotation, wannotation, WfAnnotations, wabsent, wannotations, WfId, wid, WfDefault, wnone, wsome, WfField, wfield, WfThrows, wquiet, wthrows, WfReturn, wvoid, wtype, WfFunction, wfunction, WfOption, wnothing, wjust, WfMember, wmember, WfDefinition, winclude, wcpp, wnamespace, wconst, wtypedef, wenum, wstructure, wservice}
+use Rattle.parser.proofs.Wf.{commentKinds, most, Tok, WfType, wcommon, wlist, wset, wmap, WfValue, wleaf, wseq, wdict, WfElements, wnil, wcons, WfProperties, wpnil, wpcons, WfAnnotation, wannotation, WfAnnotations, wabsent, wannotations, WfId, wnoid, wid, WfDefault, wnone, wsome, WfField, wfield, WfThrows, wquiet, wthrows, WfReturn, wvoid, wtype, WfFunction, wfunction, WfOption, wnothing, wjust, WfMember, wmember, WfDefinition, winclude, wcpp, wnamespace, wconst, wtypedef, wenum, wstructure, wservice}
 use Rattle.writer.specs.Print.{Piece, gap, mark, word, note, own, keyword, space, line, comma, writeType, writeValue, writeElements, moreElements, writeProperties, moreProperties, writeEach, commas, nothing, writeAnnotation, writeAnnotations, writeComment, writeComments, writeId, writeRequired, writeDefault, writeField, writeParam, writeInitializer, writeMember, writeThrows, writeOneway, writeFunction, writeBody, structureKeyword, writeExtends, writeDefinition, pieces}
 use Rattle.writer.proofs.Toks.{toks}
 
@@ -176,6 +176,9 @@ free-mark ks k b h r = record { free = λ c. peek-mark c r ks k b ∙ h }
 
 free-gap : (ks : List Token) (b : List ℕ) {r : List Piece} → Free ks r → Free ks (gap b ∷ r)
 free-gap ks b {r} h = record { free = λ c. rw (gap-rt b r) (h .free c) }
+
+opens-keyword : (ks : List Token) (k : Token) (s : String) → among k ks ≡ true → (r : List Piece) → Opens ks (keyword k s ∷ r)
+opens-keyword ks k s h r = record { opens = λ c. peek-keyword c r ks k s ∙ h }
 
 opens-gap : (ks : List Token) (b : List ℕ) {r : List Piece} → Opens ks r → Opens ks (gap b ∷ r)
 opens-gap ks b {r} h = record { opens = λ c. rw (gap-rt b r) (h .opens c) }
@@ -507,7 +510,7 @@ module _ (Good : Token → List ℕ → Type 0) where
 abbrev starts : List Token
 starts =
     T.IntegerLiteral ∷ T.Void ∷ T.Oneway ∷ T.Binary ∷ T.String ∷ T.Byte ∷ T.I8 ∷ T.I16 ∷ T.I32 ∷ T.I64 ∷ T.Double ∷ T.Bool ∷ T.Identifier ∷ T.List ∷ T.Map ∷ T.Set
-    ∷ T.Include ∷ T.CppInclude ∷ T.Namespace ∷ T.Const ∷ T.Typedef ∷ T.Enum ∷ T.Struct ∷ T.Union ∷ T.Exception ∷ T.Service ∷ []
+    ∷ T.Include ∷ T.CppInclude ∷ T.Namespace ∷ T.Const ∷ T.Typedef ∷ T.Enum ∷ T.Struct ∷ T.Union ∷ T.Exception ∷ T.Service ∷ T.Required ∷ T.Optional ∷ []
 
 pub record Clear (r : List Piece) : Type 0 where
   pub first : Opens starts r
@@ -635,6 +638,14 @@ type-free h = (
   opens-inside typeStarts starts refl h,
 )
 
+-- an id, or requiredness or a type without one
+abbrev fieldStarts : List Token
+fieldStarts = T.Required ∷ T.Optional ∷ typeStarts
+
+head-free : {r : List Piece} → Opens fieldStarts r → Free (T.IntegerLiteral ∷ []) r × Opens starts r
+unfolding apart inside among is code
+head-free h = (opens-free fieldStarts (T.IntegerLiteral ∷ []) refl h, opens-inside fieldStarts starts refl h)
+
 leaf-type-starts : (k : Token) → among k leafTypes ≡ true → among k typeStarts ≡ true
 unfolding inside among is code
 leaf-type-starts k h = inside-among leafTypes typeStarts refl k h
@@ -689,9 +700,23 @@ module _ (Good : Token → List ℕ → Type 0) where
   unfolding parseValue
   parse-value-rt h c r = value-rt Good h c r
 
-  id-rt : {i : Option Lexeme} → WfId Good i → (c : List Lexeme) (r : List Piece) → parseFieldId (on c (writeId i r)) ≡ ok (opt bareL i) (on c r)
+  -- what stands behind an id, and opens a field without one
+  head-opens : {t : FieldType} → WfType Good 32 t → (q : Required) (r : List Piece) → Opens fieldStarts (writeRequired q (writeType t r))
+  unfolding writeRequired inside among is code
+  head-opens h default r = opens-inside typeStarts fieldStarts refl (type-opens h r)
+  head-opens h required r = opens-keyword fieldStarts T.Required "required" refl _
+  head-opens h optional r = opens-keyword fieldStarts T.Optional "optional" refl _
+
+  field-opens : {i : Option Lexeme} → WfId Good i → {t : FieldType} → WfType Good 32 t → (q : Required) (r : List Piece) → Opens starts (writeId i (writeRequired q (writeType t r)))
+  unfolding writeId
+  field-opens wnoid y q r = head-free (head-opens y q r) .1
+  field-opens (wid {t = t} h g) y q r = opens-own starts t (integer-starts (kind t) (h .kinds)) _
+
+  id-rt : {i : Option Lexeme} → WfId Good i → {t : FieldType} → WfType Good 32 t → (q : Required) (c : List Lexeme) (r : List Piece) →
+      parseFieldId (on c (writeId i (writeRequired q (writeType t r)))) ≡ ok (opt bareL i) (on c (writeRequired q (writeType t r)))
   unfolding parseFieldId writeId opt when test bind
-  id-rt (wid h g) c r = simp (peek-own, h .kinds, next-own, bytes-bare, g, want-mark, gap-rt)
+  id-rt wnoid y q c r = simp (head-free (head-opens y q r) .0 .free c)
+  id-rt (wid h g) y q c r = simp (peek-own, h .kinds, next-own, bytes-bare, g, want-mark, gap-rt)
 
   required-rt : {t : FieldType} → WfType Good 32 t → (q : Required) (c : List Lexeme) (r : List Piece) → parseRequired (on c (writeRequired q (writeType t r))) ≡ ok q (on c (writeType t r))
   unfolding parseRequired writeRequired when test bind
@@ -711,7 +736,7 @@ module _ (Good : Token → List ℕ → Type 0) where
       simp (
         start-rt,
         gap-rt,
-        id-rt i,
+        id-rt i t,
         required-rt t,
         parse-type-rt t,
         want-own Good n,
@@ -723,7 +748,7 @@ module _ (Good : Token → List ℕ → Type 0) where
   pub param-rt : {f : Field} → WfField Good f → (r : List Piece) → Free (T.Equals ∷ []) r → Free (T.LeftParen ∷ []) r → parseField (on [] (writeParam f r)) ≡ ok (forgetField (dropField f)) (on [] r)
   unfolding parseField writeParam taken bind here moveField dropField moves writeRequired writeAnnotations moveAnnotations
   param-rt (wfield c i t n v a') r h g =
-      simp (start-rt, gap-rt, id-rt i, required-rt t default, parse-type-rt t, want-own Good n, default-rt v [] r h, annotations-rt Good {a = absent} wabsent [] r g, span-nowhere)
+      simp (start-rt, gap-rt, id-rt i t default, required-rt t default, parse-type-rt t, want-own Good n, default-rt v [] r h, annotations-rt Good {a = absent} wabsent [] r g, span-nowhere)
 
 -- ---- the fields of a structure, the members of an enum
 
@@ -754,8 +779,8 @@ module _ (Good : Token → List ℕ → Type 0) (ind : List ℕ) where
   notes-field (wfield c i t n v a) = c
 
   clear-field : {f : Field} → WfField Good f → (r : List Piece) → Clear (coreField ind f r)
-  unfolding coreField writeId
-  clear-field (wfield c (wid {t = t} i g) y n v a) r = clear (opens-gap starts ind (opens-own starts t (integer-starts (kind t) (i .kinds)) _))
+  unfolding coreField
+  clear-field (wfield {q = q} c i y n v a) r = clear (opens-gap starts ind (field-opens Good i y q _))
 
   enter-field : (f : Field) → WfField Good f → (r : List Piece) → membersEnd T.RightBrace (on [] (writeField ind f r)) ≡ ok false (on (bares (notesField f)) (coreField ind f r))
   enter-field f h r = let z = clear-field h r in rw (write-field ind f r) (members-comments Good ind (coreField ind f r) z T.RightBrace (z .nobrace) (notes-field h))
@@ -826,8 +851,8 @@ ahead-param (x ∷ xs) r = members-comma T.RightParen (32 ∷ []) r
 
 module _ (Good : Token → List ℕ → Type 0) where
   clear-param : {f : Field} → WfField Good f → (r : List Piece) → Clear (writeParam f r)
-  unfolding writeParam writeId
-  clear-param (wfield c (wid {t = t} i g) y n v a) r = clear (opens-own starts t (integer-starts (kind t) (i .kinds)) _)
+  unfolding writeParam writeRequired
+  clear-param (wfield c i y n v a) r = clear (field-opens Good i y default _)
 
   enter-param : (f : Field) → WfField Good f → (r : List Piece) → membersEnd T.RightParen (on [] (writeParam f r)) ≡ ok false (on [] (writeParam f r))
   enter-param f h r = let z = clear-param h r in members-stay Good [] (writeParam f r) z T.RightParen (z .noparen) []
@@ -905,9 +930,6 @@ absent-skips r h = rw gap-rt h
 absent-reads : (s : St) → peek (T.LeftParen ∷ []) s ≡ false → parseAnnotations s ≡ ok (forgetAnnotations absent) s
 unfolding moveAnnotations
 absent-reads s h = absent-rt s h
-
-opens-keyword : (ks : List Token) (k : Token) (s : String) → among k ks ≡ true → (r : List Piece) → Opens ks (keyword k s ∷ r)
-opens-keyword ks k s h r = record { opens = λ c. peek-keyword c r ks k s ∙ h }
 
 calm-shut : (r : List Piece) → Calm (membersEnd T.RightBrace) (mark T.RightBrace 125 ∷ r)
 unfolding skip-trivia skip pass toks kind fate among is code by peek
