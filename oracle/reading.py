@@ -1,7 +1,8 @@
-"""A reading of document 01 with Change 1, written along its prose, to find where it and the Rust part.
+"""A reading of document 01 with Changes 1 and 4, written along its prose, to find where it and the Rust part.
 
-answer(text) gives what `oracle nodes` prints, but for the lines of a text with CR LF; where rico panics it gives the end
-rule's refusal. same(text, rico, other) compares two answers as Change 1 says.
+answer(text) gives what `oracle_fields nodes` prints, but for the lines of a text with CR LF; where rico panics it gives the
+end rule's refusal. outside(text) tells whether a field is begun with another token than an integer: if not, the answer is
+what `oracle nodes` prints too. same(text, rico, other) compares two answers as Change 1 says.
 """
 
 import longest
@@ -27,6 +28,7 @@ class Reader:
     def __init__(self, text):
         self.text, self.tokens = text, longest.cut(text)[0]
         self.at, self.waiting, self.nodes, self.comments = 0, [], [], []
+        self.outside = None
 
     # ---- the token in hand
 
@@ -185,8 +187,8 @@ class Reader:
                 self.refuse(9)
             self.leaf(17, me)
             self.mark(b":")
-        elif self.kind() is not None:
-            self.step()
+        elif self.kind() is not None and self.outside is None:
+            self.outside = self.tokens[self.at][1], self.tokens[self.at][4] - self.tokens[self.at][1]
         if self.is_(b"required", b"optional"):
             self.nodes[me][2] += 1 if self.is_(b"required") else 2
             self.step()
@@ -302,20 +304,29 @@ def same(text, rico, other):
     return rico == other or longest.PAIR in text and unplaced(rico) == unplaced(other)
 
 
-def answer(text):
+def read(text):
+    """The answer, and place and length of the first token that begins a field and is no integer, or None."""
     if len(text) > 65536:
-        return "R 20 0 0\n"
+        return "R 20 0 0\n", None
     try:
         text.decode()
     except UnicodeDecodeError as error:
-        return f"R 21 {error.start} 0\n"
+        return f"R 21 {error.start} 0\n", None
     stop = longest.cut(text)[1]
     if stop is not None:
-        return f"R 22 {stop} 0\n"
+        return f"R 22 {stop} 0\n", None
     reader = Reader(text)
     try:
         reader.document()
     except Refused as refusal:
-        return "R {} {} {}\n".format(*refusal.args)
+        return "R {} {} {}\n".format(*refusal.args), reader.outside
     rows = [(len(reader.nodes), len(reader.comments))] + reader.nodes + sorted(reader.comments, key=lambda c: c[3])
-    return "".join(" ".join(map(str, row)) + "\n" for row in rows)
+    return "".join(" ".join(map(str, row)) + "\n" for row in rows), reader.outside
+
+
+def answer(text):
+    return read(text)[0]
+
+
+def outside(text):
+    return read(text)[1] is not None

@@ -111,10 +111,15 @@ class Gap:
 
 
 class Grammar:
-    """Grammar-directed documents. `wrong` is the chance that a choice goes against the grammar."""
+    """Grammar-directed documents. `wrong` is the chance that a choice goes against the grammar.
 
-    def __init__(self, rng, wrong=0.0, chatty=0.4, blanks=0.5, size=3):
+    `plain`: fields as Change 4 has them, most of them without id. Else a field without id begins with any token, which rico
+    passes over.
+    """
+
+    def __init__(self, rng, wrong=0.0, chatty=0.4, blanks=0.5, size=3, plain=False):
         self.rng, self.wrong, self.chatty, self.blanks, self.size = rng, wrong, chatty, blanks, size
+        self.plain = plain
 
     def slip(self):
         return self.wrong > 0 and self.rng.random() < self.wrong
@@ -173,16 +178,31 @@ class Grammar:
             out += [self.rng.choice([b",", b";"]) if self.maybe(0.8) else None, gap]
         return out + [b")"]
 
+    def plain_start(self):
+        """The id and the requiredness of a field, each perhaps; as slips a token too many, or a comment."""
+        rng, out = self.rng, []
+        if self.maybe(0.3):
+            out += [field_id(rng) if self.slip() else rng.choice([b"1", b"2", b"10", b"+1", b"01"]), b":"]
+        if self.slip():
+            out += [rng.choice([b"required", b"x", b"(", b",", b"1", b":", b"void", b"'s'", b"1.5", b"}", comment(rng)])]
+        if self.maybe(0.5):
+            out += [rng.choice([b"required", b"optional"])]
+        if self.slip():
+            out += [rng.choice([b"required", b"optional", b",", b"1", b"=", comment(rng)])]
+        return out
+
     def field(self, closing):
         rng = self.rng
         out = []
-        if self.maybe(0.8):
+        if self.plain:
+            out += self.plain_start()
+        elif self.maybe(0.8):
             out += [field_id(rng), b":"]
         else:
             passed = rng.choice([b"required", b"optional", b"x", b"(", b"<", b"struct", b"=", b"1.5", b"*", b"'s'", b"]"])
             if passed != closing and not self.slip():
                 out += [passed]
-        if self.maybe(0.4):
+        if not self.plain and self.maybe(0.4):
             out += [rng.choice([b"required", b"optional"])]
         out += self.type()
         if self.slip():
@@ -314,8 +334,8 @@ def deep_values(depth, kinds, rng):
     return out
 
 
-def deep(rng):
-    """Nesting around the limit of 32, in every place that holds a type or a value, whole or cut short."""
+def deep(rng, plain=False):
+    """Nesting around the limit of 32, in every place that holds a type or a value, whole or cut short. `plain`: in fields without id."""
     depth = rng.choice([30, 31, 32, 32, 33, 33, 34, 40])
     if rng.random() < 0.5:
         kinds = rng.choice([[b"list"], [b"set"], [b"map"], [b"list", b"set", b"map"]])
@@ -323,11 +343,17 @@ def deep(rng):
         frames = [b"typedef %s T", b"const %s X=1", b"struct A{1:%s a}", b"struct A{x %s a=[[1]]}",
                   b"service S{%s f()}", b"service S{void f(1:%s a)}", b"service S{void f()throws(1:%s a)}",
                   b"union U{1:i8 list 2:%s a}"]
+        if plain:
+            frames = [b"struct A{%s a}", b"struct A{required %s a=[[1]]}", b"union U{i8 list %s a}", b"exception X{x y;%s a}",
+                      b"service S{void f(%s a)}", b"service S{void f(i8 a,optional %s b)}", b"service S{void f()throws(%s a)}"]
     else:
         kinds = rng.choice([[b"["], [b"{"], [b"[", b"{"]])
         part = deep_values(depth, kinds, rng)
         frames = [b"const i8 X=%s", b"struct A{1:i8 a=%s}", b"exception A{1:i8 a=%s(a='b')}",
                   b"service S{void f(1:i8 a=%s)}", b"service S{void f()throws(1:i8 a=%s)}"]
+        if plain:
+            frames = [b"struct A{i8 a=%s}", b"union A{optional x y=%s(a='b')}", b"service S{void f(i8 a=%s)}",
+                      b"service S{void f()throws(required i8 a=%s)}"]
     text = rng.choice([b"", b"#c\n", b"enum E{A}"]) + rng.choice(frames) % part
     if rng.random() < 0.5:
         text = damaged(rng, text)
@@ -375,10 +401,10 @@ def damaged(rng, text):
     return bytes(out)
 
 
-def document(rng, wrong=None, definitions=None, size=None):
+def document(rng, wrong=None, definitions=None, size=None, plain=False):
     wrong = rng.choice([0, 0, 0, 0.01, 0.03, 0.08]) if wrong is None else wrong
     grammar = Grammar(rng, wrong, rng.choice([0.0, 0.1, 0.4, 0.6]), rng.choice([0.0, 0.3, 0.8]),
-                      rng.choice([2, 3, 4]) if size is None else size)
+                      rng.choice([2, 3, 4]) if size is None else size, plain)
     return grammar.document(rng.choice([1, 1, 1, 2, 3]) if definitions is None else definitions)
 
 
@@ -398,6 +424,30 @@ def mixed(rng):
     return damaged(rng, damaged(rng, document(rng, wrong=0.0)))
 
 
+def field_soup(rng):
+    """A body, parameters or thrown fields of a few tokens, such as may start fields."""
+    head, tail = rng.choice([(b"struct A{", b"}"), (b"union U{", b"}"), (b"service S{void f(", b")}"),
+                             (b"service S{i8 f()throws(", b")}")])
+    table = [b"required ", b"optional ", b"i8 ", b"a ", b"x ", b"list<i8>", b"A.b ", b"1:", b"1 ", b":", b"=1 ", b"='s'",
+             b"(a='b')", b",", b";", b"#c\n", b"/*c*/", b"void ", b"map ", b"(", b"struct ", b"1.5 ", b"]"]
+    middle = b"".join(rng.choice(table[:rng.choice([7, 15, 23])]) for _ in range(rng.randrange(1, 10)))
+    return rng.choice([b"", b"enum E{A}", b"#c\n"]) + head + middle + rng.choice([tail, tail, tail, b""])
+
+
+def fields(rng):
+    """One text around Change 4: fields with and without id, some with slips."""
+    choice = rng.random()
+    if choice < 0.4:
+        return document(rng, 0.0, plain=True)
+    if choice < 0.6:
+        return document(rng, rng.choice([0.02, 0.05, 0.1]), plain=True)
+    if choice < 0.75:
+        return damaged(rng, document(rng, 0.0, plain=True))
+    if choice < 0.93:
+        return field_soup(rng)
+    return deep(rng, plain=True)
+
+
 # ---- short texts, all of them
 
 def short_texts():
@@ -413,6 +463,20 @@ def short_texts():
               (b"service S{void f(", b")}"), (b"service S{void f()", b"}"), (b"service S{void f()throws", b"}"),
               (b"const i8 X=", b""), (b"const i8 X=[", b"]"), (b"const i8 X={", b"}"), (b"typedef ", b" T"),
               (b"const ", b" X=1"), (b"namespace ", b" a"), (b"const map<", b">X=1")]
+    for head, tail in frames:
+        for middle in tokens_of(inner, 3, [head]):
+            yield middle
+            yield middle + tail
+
+
+def short_fields():
+    """The same where fields without id stand."""
+    inner = [b"i8 ", b"a ", b"1 ", b":", b"=", b",", b";", b"#c\n", b"/*c*/", b"(", b")", b"{", b"}", b"[", b"]", b"<", b">", b"'s'",
+             b"list ", b"required ", b"optional ", b"void ", b"1.5 "]
+    frames = [(b"struct A{required ", b"}"), (b"struct A{i8 ", b"}"), (b"struct A{i8 a", b"}"), (b"struct A{list<i8>a=", b"}"),
+              (b"struct A{#c\n", b" a}"), (b"union U{1:optional ", b"}"), (b"service S{void f(required ", b")}"),
+              (b"service S{void f(i8 a", b")}"), (b"service S{void f()throws(", b")}"),
+              (b"service S{void f()throws(optional ", b")}")]
     for head, tail in frames:
         for middle in tokens_of(inner, 3, [head]):
             yield middle

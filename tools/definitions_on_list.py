@@ -1,11 +1,13 @@
 #!/usr/bin/env python3
-"""Computes the definitions of reading and printing on the texts of oracle/answers.list and holds them to rico's answers.
+"""Computes the definitions of reading and printing on the texts of oracle/answers.list and holds them to the answers kept there.
 
 usage: tools/definitions_on_list.py [LONGEST [EVERY]]
-LONGEST: texts up to so many bytes (default 100); EVERY: each so-many-th of them (default 8), and the first of each refusal, kind and flags.
+LONGEST: texts up to so many bytes (default 100); EVERY: each so-many-th of them (default 8), and the first of each refusal, kind, flags and form of a field.
+The answers are rico's own for the texts inside, which come first, and those of rico with the field rule of Change 4 for the texts outside (oracle/README.md).
 Where a text has CR LF, which rico counts for two lines and document 01 with Change 1 for one, lines and columns are those of oracle/longest.py.
 Each text becomes a theorem by computation, in a crate of its own beside a copy of the crates under target/definitions: records, comments and refusals
-against parser/specs/Read, prints at 0, 2 and 8 against writer/specs/Print. The crates must be proved before (rt check writer). ASCII texts only. It is slow (about a tenth of a second a theorem) and no part of the gate."""
+against parser/specs/Read, prints at 0, 2 and 8 against writer/specs/Print. If oracle/build was run, rico's own answers to the same texts, with rico's lines, against rico/specs/Reading,
+and where the first field is begun that starts with no integer, if any is, by oracle/reading.py. The crates must be proved before (rt check writer rico). ASCII texts only. It is slow (about a tenth of a second a theorem) and no part of the gate."""
 import os
 import re
 import shutil
@@ -17,7 +19,9 @@ sys.dont_write_bytecode = True
 sys.path.insert(0, "oracle")
 
 from longest import PAIR, cut
+import reading
 
+ORACLE = "target/oracle/bin/oracle"
 longest = int(sys.argv[1]) if len(sys.argv) > 1 else 100
 every = int(sys.argv[2]) if len(sys.argv) > 2 else 8
 data = open("oracle/answers.list", "rb").read()
@@ -76,10 +80,11 @@ def run():
 
 
 def features(text, refusal, nodes, comments, prints):
-    """What a case shows: its refusal, or the kinds with their flags and the owners of comments."""
+    """What a case shows: its refusal and side, or the kinds with their flags, the owners of comments and the fields, each with its parent's kind, its flags and its first child's kind."""
     if refusal:
-        return {("refusal", refusal[0])}
-    return {("record", r[0], r[2]) for r in nodes} | {("comment", r[0], nodes[r[1]][0]) for r in comments}
+        return {("refusal", refusal[0], "outside" if reading.outside(text) else "inside")}
+    fields = {("field", nodes[r[1]][0], r[2], nodes[i + 1][0]) for i, r in enumerate(nodes) if r[0] == 12}
+    return fields | {("record", r[0], r[2]) for r in nodes} | {("comment", r[0], nodes[r[1]][0]) for r in comments}
 
 
 short = [c for c in (case() for _ in range(number())) if len(c[0]) <= longest and all(b < 127 for b in c[0])]
@@ -88,16 +93,18 @@ for i, c in enumerate(short):
     if i % every == 0 or features(*c) - met:
         cases.append(c)
         met |= features(*c)
-print("refusals", *sorted(f[1] for f in met if f[0] == "refusal"))
+for side in ("inside", "outside"):
+    print("refusals", side, *sorted(f[1] for f in met if f[0] == "refusal" and f[2] == side))
+print("fields", *sorted(f"{f[2]} of {f[1]} from {f[3]}" for f in met if f[0] == "field"))
 print("records", *sorted(f"{f[1]}/{f[2]}" for f in met if f[0] == "record"))
 print("comments", *sorted(f"{f[1]} of {f[2]}" for f in met if f[0] == "comment"))
 shutil.rmtree("target/definitions", ignore_errors=True)
 os.makedirs("target/definitions/crates/held/proofs")
 os.makedirs("target/definitions/crates/held/src")
 shutil.copytree("crates", "target/definitions/crates", symlinks=True, dirs_exist_ok=True)
-for part in ("rlib", "stamp"):
-    shutil.copytree(f"target/{part}", f"target/definitions/target/{part}")
-open("target/definitions/crates.txt", "w").write(open("crates.txt").read() + "held: writer parser ast lexer scan utf8 token\n")
+for folder in ("rlib", "stamp"):
+    shutil.copytree(f"target/{folder}", f"target/definitions/target/{folder}")
+open("target/definitions/crates.txt", "w").write(open("crates.txt").read() + "held: rico fuel writer parser ast lexer scan utf8 token\n")
 open("target/definitions/crates/held/src/lib.rt", "w").write("// Theorems by computation.\n")
 names = []
 
@@ -115,16 +122,16 @@ def module(kind, head, theorems):
 
 
 source = open("crates/parser/proofs/Cases.antt").read()
-head, rest = source.split("pub edges-hold : All edges\n")
+head, rest = source.split("pub edges-hold : All outcome edges\n")
 opened = rest[: rest.index("edges-hold =")]
 head = re.sub(r"Edges\.\{([^}]*)\}", lambda m: "Edges.{" + ", ".join(dict.fromkeys(["Holds", "refuses", "accepts", *m.group(1).split(", ")])) + "}", head)
 head = re.sub(r"^use ", "use mathlib.Core.List.{List, [], _∷_}\nuse ", head, count=1, flags=re.M)
 theorems = []
 for i, (text, refusal, nodes, comments, _) in enumerate(cases):
     edge = f"refuses {quoted(text)} {' '.join(map(str, refusal))}" if refusal else f"accepts {quoted(text)} {listed(nodes, listed)} {listed(comments, listed)}"
-    theorems.append(f"c{i} : Holds ({edge})\n{opened}c{i} = {'refl' if refusal else '(refl, refl)'}\n")
+    theorems.append(f"c{i} : Holds outcome ({edge})\n{opened}c{i} = {'refl' if refusal else '(refl, refl)'}\n")
 module("Text", head, theorems)
-print(f"{len(cases)} texts, {sum(c[1] is None for c in cases)} of them accepted, {sum(PAIR in c[0] for c in cases)} with CR LF")
+print(f"{len(cases)} texts, {sum(c[1] is None for c in cases)} of them accepted, {sum(PAIR in c[0] for c in cases)} with CR LF, {sum(reading.outside(c[0]) for c in cases)} outside")
 
 source = open("crates/writer/proofs/Cases.antt").read()
 head, rest = source.split("-- a reading and a printing of a text at an indent")
@@ -135,5 +142,31 @@ prints = [(c[0], n, p) for c in cases if c[4] for n, p in zip((0, 2, 8), c[4])]
 theorems = [f"p{i} : whole {quoted(t)} {n} ≡ bytes {quoted(p)}\nunfolding whole bytes\np{i} = refl\n" for i, (t, n, p) in enumerate(prints)]
 module("Print", head, theorems)
 print(f"{len(prints)} prints")
+
+if os.path.exists(ORACLE):
+    source = open("crates/rico/proofs/Cases.antt").read()
+    head, rest = source.split("-- what rico answers\n")
+    opened = re.search(r"^pub edges-hold .*\n((?:.|\n)*?)edges-hold =", rest, re.M).group(1)
+    head = re.sub(r"Edges\.\{[^}]*\}", "Edges.{Holds, refuses, accepts}", head)
+    packed = b"".join(struct.pack("<I", len(c[0])) + c[0] for c in cases)
+    data, at = subprocess.run([ORACLE, "batch", "nodes"], input=packed, stdout=subprocess.PIPE, check=True).stdout, 0
+    theorems, parted = [], 0
+    for i, (text, *_) in enumerate(cases):
+        rows = [list(map(int, row.split())) for row in part(number()).decode().replace("R ", "").replace("PANIC", "").split("\n")[:-1]]
+        first = reading.read(text)[1]
+        if not rows[0]:
+            continue
+        if len(rows[0]) == 3:
+            edge, proof = f"refuses {quoted(text)} {' '.join(map(str, rows[0]))}", "refl"
+        else:
+            n = rows[0][0] + 1
+            edge, proof = f"accepts {quoted(text)} {listed(rows[1:n], listed)} {listed(rows[n:], listed)}", "(refl, refl)"
+        theorems.append(f"r{i} : Holds O.outcome ({edge})\n{opened}r{i} = {proof}\n")
+        if first:
+            parted += 1
+            edge, proof = f"refuses {quoted(text)} 0 {first[0]} {first[1]}", "refl"
+        theorems.append(f"b{i} : Holds (O.outcomeWith (F.stopping 0)) ({edge})\n{opened}b{i} = {proof}\n")
+    module("Rico", head, theorems)
+    print(f"{len(theorems)} theorems on rico's own rules, {parted} texts outside")
 open("target/definitions/crates/held/proofs/Lib.antt", "w").write("".join(f"pub mod {n}\n" for n in names))
 sys.exit(run())

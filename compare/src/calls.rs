@@ -3,12 +3,6 @@
 use crate::random::Rng;
 use crate::sides::{fault, wanted, Fault, Port, Request, Source, Wanted, INDENTS, LONGEST};
 
-/// Does each field, parameter and thrown field begin with an integer token? Its first child is an id then.
-pub fn numbered(nodes: &[u32]) -> bool {
-    let records: Vec<&[u32]> = nodes.chunks(9).collect();
-    (0..records.len()).all(|at| records[at][0] != 12 || records.get(at + 1).is_some_and(|child| child[0] == 17))
-}
-
 /// What counts when definitions agree: the tree, kinds, flags, the bytes of some kinds and of the comments, after the drop in parameters.
 pub fn shape(text: &[u8], nodes: &[u32], comments: &[u32]) -> Vec<u8> {
     let records: Vec<&[u32]> = nodes.chunks(9).collect();
@@ -59,23 +53,43 @@ fn size(rng: &mut Rng, need: usize, unit: usize) -> usize {
     }
 }
 
+/// The fault where the two ricos differ on a text inside.
+pub fn parted() -> Fault {
+    fault("rico with the field rule of Change 4 differs from rico inside", String::new())
+}
+
 fn compared(wanted: &Wanted) -> bool {
     matches!(wanted.source, Source::Rico | Source::CutOtherwise)
 }
 
-/// One list of calls, one by one and by one run. None: the text is outside the claim's premise. Else the number of accepted printings.
-pub fn list(port: &mut Port, text: &[u8], indent: usize, length: usize, rng: &mut Rng) -> Result<Option<usize>, Fault> {
+/// What a list of calls or a pair came to. `printings`: None if the claim says nothing, else the number of accepted printings.
+#[derive(Default)]
+pub struct Made {
+    pub printings: Option<usize>,
+    /// Outside, by Change 4.
+    pub outside: bool,
+}
+
+/// One list of calls, one by one and by one run. The claim is on accepted texts whose print is a text that may be read.
+pub fn list(port: &mut Port, text: &[u8], indent: usize, length: usize, rng: &mut Rng) -> Result<Made, Fault> {
     let first = wanted(text, Some(indent));
-    if !compared(&first) || first.refusal.is_some() || !numbered(&first.nodes) || first.prints[indent].len() > LONGEST {
-        return Ok(None);
+    let made = |printings| Made { printings, outside: first.outside };
+    if first.source == Source::RulesPart {
+        return Err(parted());
+    }
+    if !compared(&first) || first.refusal.is_some() || first.prints[indent].len() > LONGEST {
+        return Ok(made(None));
     }
     let print = first.prints[indent].clone();
     let second = wanted(&print, Some(indent));
+    if second.source == Source::RulesPart {
+        return Err(parted());
+    }
     if !compared(&second) {
-        return Ok(None);
+        return Ok(made(None));
     }
     if second.refusal.is_some() || second.prints[indent] != print {
-        return Err(fault("demand 3: rico's print is refused or prints otherwise", format!("indent {indent}: {:?}", second.refusal)));
+        return Err(fault("demand 3: the print is refused or prints otherwise", format!("indent {indent}: {:?}", second.refusal)));
     }
     if shape(text, &first.nodes, &first.comments) != shape(&print, &second.nodes, &second.comments) {
         return Err(fault("demand 3: the print's definitions do not agree", format!("indent {indent}")));
@@ -108,14 +122,18 @@ pub fn list(port: &mut Port, text: &[u8], indent: usize, length: usize, rng: &mu
         _ => text.len().max(print.len()) + rng.below(40),
     };
     port.run(text, &first, &second, indent as u32, &requests, room, rng)?;
-    Ok(Some(printings))
+    Ok(made(Some(printings)))
 }
 
-/// Two texts that are made to agree: their definitions do, and both are printed alike. False if one is not accepted.
-pub fn pair(port: &mut Port, one: &[u8], other: &[u8], rng: &mut Rng) -> Result<bool, Fault> {
+/// Two texts that are made to agree: their definitions do, and both are printed alike. No printings if one is not accepted.
+pub fn pair(port: &mut Port, one: &[u8], other: &[u8], rng: &mut Rng) -> Result<Made, Fault> {
     let (a, b) = (wanted(one, None), wanted(other, None));
+    let made = |printings| Made { printings, outside: a.outside || b.outside };
+    if a.source == Source::RulesPart || b.source == Source::RulesPart {
+        return Err(parted());
+    }
     if !compared(&a) || !compared(&b) || a.refusal.is_some() || b.refusal.is_some() {
-        return Ok(false);
+        return Ok(made(None));
     }
     if shape(one, &a.nodes, &a.comments) != shape(other, &b.nodes, &b.comments) {
         return Err(fault("demand 3: texts made to agree do not", format!("the other is \"{}\"", other.escape_ascii())));
@@ -128,5 +146,5 @@ pub fn pair(port: &mut Port, one: &[u8], other: &[u8], rng: &mut Rng) -> Result<
             return Err(fault("demand 3: agreeing texts print otherwise", format!("indent {indent}, the other is \"{}\"", other.escape_ascii())));
         }
     }
-    Ok(true)
+    Ok(made(Some(INDENTS)))
 }

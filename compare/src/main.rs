@@ -9,7 +9,7 @@ mod sides;
 mod texts;
 
 use random::Rng;
-use sides::{wanted, Fault, Port, Source, Wanted, INDENTS, LONGEST};
+use sides::{wanted, Fault, Own, Port, Source, Wanted, INDENTS, LONGEST};
 use std::collections::BTreeMap;
 use std::time::Instant;
 
@@ -37,6 +37,8 @@ struct Family {
     accepted: u64,
     /// With CR LF.
     paired: u64,
+    /// With a field that is begun with another token than an integer: compared with rico with the field rule of Change 4.
+    outside: u64,
     panics: u64,
     otherwise: u64,
     not_judged: u64,
@@ -65,6 +67,10 @@ struct Compare {
     records: [u64; 4],
     /// The texts with such a line.
     moved: u64,
+    /// Fields of accepted texts: with id; without, by requiredness: none, required, optional.
+    fields: [u64; 4],
+    /// Texts outside, by what rico unchanged gives.
+    own: [u64; 6],
     longest_print: usize,
     began: Instant,
 }
@@ -133,9 +139,19 @@ fn compare(port: &mut Port, text: &[u8], care: Care, rng: &mut Rng) -> (Wanted, 
         Source::PanicsElsewhere => Err(sides::fault("rico panics elsewhere", format!("end rule: {:?}", wanted.refusal))),
         Source::CutElsewhere => Err(sides::fault("rico cuts a keyword as an identifier elsewhere", String::new())),
         Source::LinesPart => Err(sides::fault("the rule for CR LF and rico without it do not agree", String::new())),
+        Source::RulesPart => Err(calls::parted()),
         _ => ask(port, text, &wanted, care, rng),
     };
+    let result = result.map_err(|fault| sided(fault, wanted.outside));
     (wanted, result)
+}
+
+/// A fault of a text outside is of a kind of its own.
+fn sided(mut fault: Fault, outside: bool) -> Fault {
+    if outside {
+        fault.kind += ", outside";
+    }
+    fault
 }
 
 impl Compare {
@@ -165,8 +181,12 @@ impl Compare {
         let family = self.families.last_mut().expect("a family");
         family.texts += 1;
         family.paired += u64::from(lines::has_pair(text));
+        family.outside += u64::from(wanted.outside);
+        if wanted.outside {
+            self.own[wanted.own as usize] += 1;
+        }
         match wanted.source {
-            Source::Rico | Source::LinesPart => {}
+            Source::Rico | Source::LinesPart | Source::RulesPart => {}
             Source::Panics | Source::PanicsElsewhere => family.panics += 1,
             Source::CutOtherwise | Source::CutElsewhere => family.otherwise += 1,
             Source::NotJudged => family.not_judged += 1,
@@ -180,6 +200,14 @@ impl Compare {
                     for record in wanted.nodes.chunks(9).chain(wanted.comments.chunks(9)) {
                         self.kinds[record[0] as usize] += 1;
                         self.flags |= record[2];
+                    }
+                    for pair in wanted.nodes.chunks(9).zip(wanted.nodes.chunks(9).skip(1)) {
+                        // an id is a field's first child
+                        match pair {
+                            ([12, ..], [17, ..]) => self.fields[0] += 1,
+                            ([12, _, flags, ..], _) => self.fields[1 + (flags & 3) as usize] += 1,
+                            _ => {}
+                        }
                     }
                     let records = (wanted.nodes.len() + wanted.comments.len()) as u64 / 9;
                     self.records[usize::from(lines::has_pair(text))] += records;
@@ -316,13 +344,13 @@ impl Compare {
         self.begin("all short texts, 14 lexemes");
         let top: [&[u8]; 14] = [b"struct ", b"enum ", b"const ", b"i8 ", b"A ", b"{", b"}", b"(", b")", b"=", b"1 ", b",", b":", b"#c\n"];
         self.sequences(&top, longest, b"", b"");
-        self.begin("all short texts in 24 frames, 22 lexemes");
+        self.begin("all short texts in 28 frames, 22 lexemes");
         let inner: [&[u8]; 22] = [
             b"i8 ", b"a ", b"1 ", b":", b"=", b",", b"#c\n", b"(", b")", b"{", b"}", b"[", b"]", b"<", b">", b"'s'", b"list ", b"required ", b"void ",
             b"throws ", b"oneway ", b"extends ",
         ];
-        let frames: [(&[u8], &[u8]); 24] = [
-            (b"struct A{", b"}"), (b"struct A{1:", b"}"), (b"struct A{1:i8 a", b"}"), (b"struct A{1:i8 a=", b"}"), (b"struct A{}(", b")"), (b"enum E{", b"}"),
+        let frames: [(&[u8], &[u8]); 28] = [
+            (b"struct A{required ", b"}"), (b"struct A{i8 a", b"}"), (b"service S{void f(required ", b")}"), (b"service S{void f()throws(optional ", b")}"), (b"struct A{", b"}"), (b"struct A{1:", b"}"), (b"struct A{1:i8 a", b"}"), (b"struct A{1:i8 a=", b"}"), (b"struct A{}(", b")"), (b"enum E{", b"}"),
             (b"enum E{A", b"}"), (b"enum E{A=", b"}"), (b"service S ", b"{}"), (b"service S{", b" f()}"), (b"service S{void f", b"}"),
             (b"service S{void f(", b")}"), (b"service S{void f(1:i8 a", b")}"), (b"service S{void f()", b"}"), (b"service S{void f()throws", b"}"),
             (b"service S{void f()throws(", b")}"), (b"const i8 X=", b"\n"), (b"const i8 X=[", b"]"), (b"const i8 X={", b"}"), (b"typedef ", b" T"),
@@ -391,7 +419,7 @@ impl Compare {
 
     /// Small documents of every kind; at each of their tokens every lexeme put in, or in its place; the token gone, doubled; the text cut.
     fn places(&mut self) {
-        self.begin("every lexeme in every place of 24 documents");
+        self.begin("every lexeme in every place of 28 documents");
         let lexemes: Vec<&[u8]> = texts::KEYWORDS
             .iter()
             .copied()
@@ -404,10 +432,11 @@ impl Compare {
         let documents = [
             "include 's'", "cpp_include 's' ;", "namespace * a", "namespace a b.c", "const i8 X = 1", "const map < i8 , list < i8 > > X = { 1 : [ a , 's' ] ; true : { } }", "typedef i8 T",
             "typedef set < map < a , i8 > > T", "enum E { }", "enum E { A , B = 1 ; C = 0x1 ( a = 's' ) }", "enum E { A ( a = 's' , b = 's' ) } ( c = 's' ; )", "struct A { }", "struct A { 1 : i8 a }",
-            "struct A { 1 : required i8 a = 1 , 2 : optional list < i8 > b ( a = 's' ) ; x i8 list }", "union U { 1 : i8 a = [ 1 , 2 ] } ( a = 's' )", "exception X { 1 : i8 a = { a : 1 } }", "service S { }",
+            "struct A { 1 : required i8 a = 1 , 2 : optional list < i8 > b ( a = 's' ) ; i8 list }", "union U { 1 : i8 a = [ 1 , 2 ] } ( a = 's' )", "exception X { 1 : i8 a = { a : 1 } }", "service S { }",
             "service S extends B { void f ( ) }", "service S { oneway void f ( 1 : i8 a , 2 : required i8 b = 1 ) }", "service S { i8 f ( ) throws ( 1 : X x ) , list < i8 > g ( ) ( a = 's' ) }",
             "service S { void f ( 1 : i8 a ( a = 's' ) ) throws ( ) ; #c\n ( a = 's' ) } ( b = 's' )", "#c\n enum E { #d\n A /*e*/ }", "struct A { #c\n 1 : i8 a #d\n } #e\n enum E { }",
-            "const i8 X = [ /*c*/ 1 , #d\n 2 ] , #e\n ; typedef i8 T",
+            "const i8 X = [ /*c*/ 1 , #d\n 2 ] , #e\n ; typedef i8 T", "struct A { i8 a }", "union U { required i8 a = 1 , optional list < i8 > b ( a = 's' ) x y ; 1 : i8 z }",
+            "exception X { #c\n A.b a #d\n required i8 b }", "service S { void f ( i8 a , required x b ; 1 : i8 c ) throws ( X x ; optional Y y ) }",
         ];
         for document in documents {
             let tokens: Vec<&[u8]> = document.split(' ').map(str::as_bytes).collect();
@@ -430,6 +459,21 @@ impl Compare {
                     self.text(&joined(&[before, &[*token, *token], rest].concat()), Care::Usual);
                 }
             }
+        }
+    }
+
+    /// Bodies and lists of parameters made of what may start a field, and what may not.
+    fn starts(&mut self, count: u64) {
+        self.begin("starts of fields");
+        for number in 0..count {
+            let mut rng = self.rng(number);
+            let mut text = texts::field_soup(&mut rng);
+            match rng.below(20) {
+                0 => text = texts::other_ends(&mut rng, &text),
+                1 => text = texts::damaged(&mut rng, &text),
+                _ => {}
+            }
+            self.text(&text, Care::Usual);
         }
     }
 
@@ -484,7 +528,8 @@ impl Compare {
 
     fn lengths(&mut self) {
         self.begin("lengths around 65,536");
-        let fillers: [(&[u8], &[u8], &[u8]); 43] = [
+        let fillers: [(&[u8], &[u8], &[u8]); 46] = [
+            (b"struct A{", b"a b,", b"}"), (b"struct A{", b"required a b ", b"}"), (b"service S{a f(", b"a b;", b")}"),
             (b"", b" ", b""), (b"", b"\n", b""), (b"", b",", b""), (b"", b";\n", b""), (b"//", b"a", b""), (b"#", b"\xc3\xa9", b"\n"), (b"/*", b"a\n", b"*/"), (b"/*", b"*", b"/"),
             (b"/*", b"a", b""), (b"include'", b"a", b"'"), (b"include'", b"a", b""), (b"typedef i8 ", b"a", b""), (b"typedef ", b"a.", b"b c"), (b"const i8 X=", b"1", b""),
             (b"const i8 X=[", b"1 ", b"]"), (b"const i8 X=[", b",", b"]"), (b"const i8 X={", b"a:b ", b"}"), (b"const i8 X=", b"[", b""), (b"const i8 X=", b"{1:", b""),
@@ -514,7 +559,7 @@ impl Compare {
         for length in [65_535, 65_536, 65_537] {
             for indent in [0, 2, 8] {
                 // the print of each: so many bytes
-                for (head, behind) in [(0, &b"enum E{}"[..]), (1, b"enum E{A=1}"), (2, b"struct A{1:i8 a}"), (3, b"service S{void f(1:i8 a)throws()}")] {
+                for (head, behind) in [(0, &b"enum E{}"[..]), (1, b"enum E{A=1}"), (2, b"struct A{1:i8 a}"), (3, b"service S{void f(1:i8 a)throws()}"), (4, b"struct A{required a b}")] {
                     let rest = wanted(behind, Some(indent)).prints[indent].len();
                     let text = [b"//", &vec![b'a' + head; length - rest - 3][..], b"\n", behind].concat();
                     self.text(&text, Care::All);
@@ -570,19 +615,16 @@ impl Compare {
                 }
             }
             if let Err(fault) = result {
-                self.differs(&text, fault);
+                self.differs(&text, sided(fault, wanted.outside));
             }
         }
     }
 
-    fn list(&mut self, text: &[u8], indent: usize, length: usize, rng: &mut Rng) -> Option<usize> {
-        match calls::list(&mut self.port, text, indent, length, rng) {
-            Ok(made) => made,
-            Err(fault) => {
-                self.differs(text, fault);
-                None
-            }
-        }
+    fn list(&mut self, text: &[u8], indent: usize, length: usize, rng: &mut Rng) -> calls::Made {
+        calls::list(&mut self.port, text, indent, length, rng).unwrap_or_else(|fault| {
+            self.differs(text, sided(fault, wanted(text, Some(indent)).outside));
+            calls::Made::default()
+        })
     }
 
     /// Demand 3. Texts here are lists of calls, accepted those within the premise.
@@ -591,7 +633,7 @@ impl Compare {
         let mut printed = (0, 0);
         for number in 0..count {
             let mut rng = self.rng(number);
-            let parts = texts::numbered(&mut rng);
+            let parts = texts::agreeing(&mut rng);
             let style = texts::style(&mut rng);
             let mut text = texts::render(&parts, &mut rng, style);
             match rng.below(100) {
@@ -605,7 +647,8 @@ impl Compare {
             let family = self.families.last_mut().expect("a family");
             family.texts += 1;
             family.paired += u64::from(lines::has_pair(&text));
-            if let Some(printings) = made {
+            family.outside += u64::from(made.outside);
+            if let Some(printings) = made.printings {
                 family.accepted += 1;
                 printed.0 += u64::from(printings > 0);
                 printed.1 += printings as u64;
@@ -614,7 +657,7 @@ impl Compare {
         self.begin("demand 3: pairs of agreeing texts");
         for number in 0..count {
             let mut rng = self.rng(number);
-            let parts = texts::numbered(&mut rng);
+            let parts = texts::agreeing(&mut rng);
             let (one, other) = (texts::style(&mut rng), texts::style(&mut rng));
             let (one, other) = (texts::render(&parts, &mut rng, one), texts::render(&parts, &mut rng, other));
             let result = calls::pair(&mut self.port, &one, &other, &mut rng);
@@ -622,8 +665,11 @@ impl Compare {
             family.texts += 1;
             family.paired += u64::from(lines::has_pair(&one) || lines::has_pair(&other));
             match result {
-                Ok(accepted) => family.accepted += u64::from(accepted),
-                Err(fault) => self.differs(&one, fault),
+                Ok(made) => {
+                    family.accepted += u64::from(made.printings.is_some());
+                    family.outside += u64::from(made.outside);
+                }
+                Err(fault) => self.differs(&one, sided(fault, wanted(&one, Some(0)).outside)),
             }
         }
         printed
@@ -666,6 +712,11 @@ impl Compare {
             let bytes = std::fs::read(format!("{folder}/{name}")).expect(name);
             for text in kept(&bytes, tokens) {
                 self.text(text, Care::Usual);
+                if name == "panics.list" {
+                    // behind a field that only the rule of Change 4 accepts, and one that only rico accepts
+                    self.text(&[b"union U{a b}", text].concat(), Care::Usual);
+                    self.text(&[b"union U{)a b}", text].concat(), Care::Usual);
+                }
             }
         }
     }
@@ -726,6 +777,8 @@ fn run() -> u64 {
         flags: 0,
         records: [0; 4],
         moved: 0,
+        fields: [0; 4],
+        own: [0; 6],
         longest_print: 0,
         began: Instant::now(),
     };
@@ -745,17 +798,19 @@ fn run() -> u64 {
     all.bytes();
     all.places();
     all.ids();
+    all.starts(count / 5);
     let printed = all.demand(count / 10, &corpus);
     all.short(longest);
     all.line_ends(count / 10, &corpus, longest);
     all.close();
 
-    println!("\n| texts | count | accepted | with CR LF | rico panics | cut otherwise | not judged | calls | differences |\n|---|---|---|---|---|---|---|---|---|");
+    println!("\n| texts | count | accepted | with CR LF | outside | rico panics | cut otherwise | not judged | calls | differences |\n|---|---|---|---|---|---|---|---|---|---|");
     let mut sum = Family { name: "**all**", ..Family::default() };
     for f in &all.families {
         sum.texts += f.texts;
         sum.accepted += f.accepted;
         sum.paired += f.paired;
+        sum.outside += f.outside;
         sum.panics += f.panics;
         sum.otherwise += f.otherwise;
         sum.not_judged += f.not_judged;
@@ -765,8 +820,8 @@ fn run() -> u64 {
     }
     for f in all.families.iter().chain([&sum]) {
         println!(
-            "| {} | {} | {} | {} | {} | {} | {} | {} | {} |",
-            f.name, thousands(f.texts), thousands(f.accepted), thousands(f.paired), thousands(f.panics), thousands(f.otherwise), thousands(f.not_judged), thousands(f.calls), thousands(f.differences)
+            "| {} | {} | {} | {} | {} | {} | {} | {} | {} | {} |",
+            f.name, thousands(f.texts), thousands(f.accepted), thousands(f.paired), thousands(f.outside), thousands(f.panics), thousands(f.otherwise), thousands(f.not_judged), thousands(f.calls), thousands(f.differences)
         );
     }
     println!("\n{:.0} s. Lists of calls with an accepted printing: {}, accepted printings in all: {}. Longest print: {} bytes.", sum.seconds, printed.0, printed.1, all.longest_print);
@@ -776,6 +831,14 @@ fn run() -> u64 {
     println!("Records by kind: {}. Flags met: {}.", met(&all.kinds), all.flags);
     let [without, with, lines, columns] = all.records.map(thousands);
     println!("Records of accepted texts: {without} without CR LF, all of rico's numbers compared; {with} with it, lines and columns by the rule: {lines} have another line than rico's, in {} texts, {columns} another column.", thousands(all.moved));
+
+    let [with, none, required, optional] = all.fields.map(thousands);
+    println!("Fields of accepted texts: {with} with id; without: {none} with no requiredness, {required} required, {optional} optional.");
+    let own = |kind: Own| thousands(all.own[kind as usize]);
+    println!(
+        "Texts outside, demand 3 apart: {}. By rico: the same answer {}, accepted with other records {}, refused otherwise {}, only rico accepts {}, only rico refuses {}, a panic {}.",
+        thousands(all.own.iter().sum()), own(Own::Same), own(Own::OtherRecords), own(Own::OtherRefusal), own(Own::OnlyRicoAccepts), own(Own::OnlyRicoRefuses), own(Own::None)
+    );
 
     let found = std::mem::take(&mut all.found);
     for (kind, one) in &found {

@@ -1,19 +1,20 @@
 //! Both sides: document 01's answer for a text, from rico, and the port's calls with all that they are lent.
+//!
+//! Change 4: a text is inside if each field that is begun starts with an integer token, else outside. The answer wanted is that of rico with the field
+//! rule of Change 4 (oracle/fields.patch), which tells the side too. Inside rico unchanged must give the very same.
 
 use crate::lines;
 use crate::random::Rng;
 use oracle::flatten::Record;
-use oracle::judge::{judge, Answer};
 use oracle::tokens::cut;
 use rico::lexer::Token;
-use rico::Writer;
 
 pub const LONGEST: usize = 65_536;
 pub const INDENTS: usize = 9;
 
 #[derive(Clone, Copy, PartialEq, Eq, Debug)]
 pub enum Source {
-    /// rico's own answer.
+    /// rico's own answer, or outside that of rico with the field rule of Change 4.
     Rico,
     /// rico panics at an enum member's `=`, the last token: the end rule in its place.
     Panics,
@@ -27,6 +28,22 @@ pub enum Source {
     NotJudged,
     /// The rule for CR LF and rico's answer for the text without it do not agree.
     LinesPart,
+    /// Inside, and rico with the field rule of Change 4 gives another answer than rico.
+    RulesPart,
+}
+
+/// What rico unchanged gives, outside, beside the answer wanted.
+#[derive(Clone, Copy, PartialEq, Eq, Debug)]
+pub enum Own {
+    Same,
+    /// Both accept, with other records.
+    OtherRecords,
+    /// Both refuse, with another number, place or length.
+    OtherRefusal,
+    OnlyRicoAccepts,
+    OnlyRicoRefuses,
+    /// rico panics, or can't be judged.
+    None,
 }
 
 /// What document 01 says of a text, tables and output being large enough.
@@ -39,6 +56,17 @@ pub struct Wanted {
     pub prints: Vec<Vec<u8>>,
     /// How many records have another line than rico's own, and another column: only where the text has CR LF.
     pub moved: (u64, u64),
+    /// A field is begun with another token than an integer.
+    pub outside: bool,
+    /// Of a text outside.
+    pub own: Own,
+}
+
+/// Whose answer.
+#[derive(Clone, Copy, PartialEq, Eq)]
+enum Rule {
+    Rico,
+    Fields,
 }
 
 const KEYWORDS: &[&str] = &[
@@ -69,11 +97,32 @@ fn flat(records: &[Record]) -> Vec<u32> {
     records.iter().flatten().copied().collect()
 }
 
-/// Rico's answer for a text. `only`: the one indent that is asked for, or all.
+/// The answer for a text. `only`: the one indent that is asked for, or all.
 pub fn wanted(text: &[u8], only: Option<usize>) -> Wanted {
+    let mut wanted = answer(text, only, Rule::Fields);
+    let own = answer(text, if wanted.outside { Some(INDENTS) } else { only }, Rule::Rico);
+    let rows = (wanted.source, wanted.refusal, &wanted.nodes, &wanted.comments) == (own.source, own.refusal, &own.nodes, &own.comments);
+    if wanted.outside {
+        let judged = |side: &Wanted| !matches!(side.source, Source::Panics | Source::PanicsElsewhere | Source::NotJudged);
+        wanted.own = match (wanted.refusal, own.refusal) {
+            _ if !judged(&wanted) || !judged(&own) => Own::None,
+            _ if rows => Own::Same,
+            (None, None) => Own::OtherRecords,
+            (Some(_), Some(_)) => Own::OtherRefusal,
+            (Some(_), None) => Own::OnlyRicoAccepts,
+            (None, Some(_)) => Own::OnlyRicoRefuses,
+        };
+    } else if !rows || wanted.prints != own.prints || wanted.moved != own.moved {
+        wanted.source = Source::RulesPart;
+    }
+    wanted
+}
+
+/// The answer by a rule.
+fn answer(text: &[u8], only: Option<usize>, rule: Rule) -> Wanted {
     let (ends, documented) = cut_otherwise(text);
     if ends.is_empty() {
-        return judged(text, only);
+        return judged(text, only, rule);
     }
     let mut spaced = Vec::with_capacity(text.len() + ends.len());
     let mut from = 0;
@@ -83,7 +132,7 @@ pub fn wanted(text: &[u8], only: Option<usize>) -> Wanted {
         from = *end;
     }
     spaced.extend_from_slice(&text[from..]);
-    let mut wanted = judged(&spaced, only);
+    let mut wanted = judged(&spaced, only, rule);
     if wanted.source == Source::LinesPart {
         return wanted;
     }
@@ -108,8 +157,9 @@ pub fn wanted(text: &[u8], only: Option<usize>) -> Wanted {
 }
 
 /// Rico's answer; where the text has CR LF, with lines and columns by Change 1, which must be rico's own for the text with spaces.
-fn judged(text: &[u8], only: Option<usize>) -> Wanted {
-    let mut wanted = by_rico(text, only);
+fn judged(text: &[u8], only: Option<usize>, rule: Rule) -> Wanted {
+    let by = if rule == Rule::Rico { by_rico } else { by_fields };
+    let mut wanted = by(text, only);
     if !lines::has_pair(text) {
         return wanted;
     }
@@ -117,45 +167,58 @@ fn judged(text: &[u8], only: Option<usize>) -> Wanted {
         let (nodes, comments) = (lines::place(text, &mut wanted.nodes), lines::place(text, &mut wanted.comments));
         wanted.moved = (nodes.0 + comments.0, nodes.1 + comments.1);
     }
-    let other = by_rico(&lines::spaced(text), Some(INDENTS));
-    if (other.refusal, &other.nodes, &other.comments) != (wanted.refusal, &wanted.nodes, &wanted.comments) {
+    let other = by(&lines::spaced(text), Some(INDENTS));
+    if (other.refusal, &other.nodes, &other.comments, other.outside) != (wanted.refusal, &wanted.nodes, &wanted.comments, wanted.outside) {
         wanted.source = Source::LinesPart;
     }
     wanted
 }
 
-/// Rico's own answer.
-fn by_rico(text: &[u8], only: Option<usize>) -> Wanted {
-    let refused = |source, (number, place, length): (u32, usize, usize)| Wanted {
-        source,
-        refusal: Some([number, place as u32, length as u32]),
-        nodes: Vec::new(),
-        comments: Vec::new(),
-        prints: Vec::new(),
-        moved: (0, 0),
-    };
-    match judge(text) {
-        Answer::Refused(refusal) => refused(Source::Rico, refusal),
-        Answer::Panic(refusal) => {
-            let assigned = &text[refusal.1..refusal.1 + refusal.2] == b"=";
-            refused(if assigned { Source::Panics } else { Source::PanicsElsewhere }, refusal)
+/// The answer of one of the two ricos, by the oracle over it.
+macro_rules! asked {
+    ($name:ident, $oracle:ident, $rico:ident) => {
+        fn $name(text: &[u8], only: Option<usize>) -> Wanted {
+            use $oracle::judge::{judge_fields, Answer};
+            let (answer, outside) = judge_fields(text);
+            let refused = |source, (number, place, length): (u32, usize, usize)| Wanted {
+                source,
+                refusal: Some([number, place as u32, length as u32]),
+                nodes: Vec::new(),
+                comments: Vec::new(),
+                prints: Vec::new(),
+                moved: (0, 0),
+                outside,
+                own: Own::None,
+            };
+            match answer {
+                Answer::Refused(refusal) => refused(Source::Rico, refusal),
+                Answer::Panic(refusal) => {
+                    let assigned = &text[refusal.1..refusal.1 + refusal.2] == b"=";
+                    refused(if assigned { Source::Panics } else { Source::PanicsElsewhere }, refusal)
+                }
+                Answer::NotJudged => refused(Source::NotJudged, (0, 0, 0)),
+                Answer::Accepted(document, tables) => Wanted {
+                    source: Source::Rico,
+                    refusal: None,
+                    nodes: flat(&tables.nodes),
+                    comments: flat(&tables.comments),
+                    prints: (0..INDENTS)
+                        .map(|indent| match only {
+                            Some(one) if one != indent => Vec::new(),
+                            _ => $rico::Writer::new(indent).write(&document).into_bytes(),
+                        })
+                        .collect(),
+                    moved: (0, 0),
+                    outside,
+                    own: Own::None,
+                },
+            }
         }
-        Answer::NotJudged => refused(Source::NotJudged, (0, 0, 0)),
-        Answer::Accepted(document, tables) => Wanted {
-            source: Source::Rico,
-            refusal: None,
-            nodes: flat(&tables.nodes),
-            comments: flat(&tables.comments),
-            prints: (0..INDENTS)
-                .map(|indent| match only {
-                    Some(one) if one != indent => Vec::new(),
-                    _ => Writer::new(indent).write(&document).into_bytes(),
-                })
-                .collect(),
-            moved: (0, 0),
-        },
-    }
+    };
 }
+
+asked!(by_rico, oracle, rico);
+asked!(by_fields, oracle_fields, rico_fields);
 
 impl Wanted {
     /// The answer of a reading with tables of these lengths, and what begins each table; the rest is 0.

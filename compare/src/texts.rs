@@ -128,8 +128,12 @@ pub struct Grammar<'a> {
     /// The chance of a comment where one may stand, of 100.
     pub chatty: usize,
     pub size: usize,
-    /// Each field begins with a right id.
-    pub numbered: bool,
+    /// The chance of an id before a field, of 100.
+    pub ids: usize,
+    /// The chance of a slip at a field's start, of 100.
+    pub odd: usize,
+    /// What a printing drops of a parameter each rendering fills in its own way.
+    pub agreeing: bool,
 }
 
 impl Grammar<'_> {
@@ -255,18 +259,34 @@ impl Grammar<'_> {
         self.token(b")");
     }
 
+    /// A token too many at a field's start: one that starts no type, a requiredness, a separator, a comment.
+    fn odd(&mut self) {
+        if self.odd > 0 && self.rng.percent(self.odd) {
+            match self.rng.below(8) {
+                0 => self.pick(WRONG_IDS),
+                1 => self.pick(&[b",", b";", b"1", b"void"]),
+                2 => {
+                    let written = block_comment(self.rng);
+                    self.token(&written);
+                }
+                3 | 4 => self.pick(&[b"required", b"optional"]),
+                _ => self.pick(PASSED),
+            }
+        }
+    }
+
     fn field(&mut self, parameter: bool) {
-        if self.numbered || self.rng.percent(80) {
-            let wrong = !self.numbered && self.rng.percent(3);
+        if self.rng.percent(self.ids) {
+            let wrong = !self.agreeing && self.rng.percent(3);
             self.pick(if wrong { WRONG_IDS } else { IDS });
             self.token(b":");
-        } else if !self.slip() {
-            self.pick(PASSED);
         }
-        if parameter && self.numbered {
+        self.odd();
+        if parameter && self.agreeing {
             self.parts.push(Part::Need);
-        } else if self.rng.percent(40) {
+        } else if self.rng.percent(45) {
             self.pick(&[b"required", b"optional"]);
+            self.odd();
         }
         self.kind(0);
         let named = self.rng.percent(15);
@@ -275,7 +295,7 @@ impl Grammar<'_> {
             self.token(b"=");
             self.value(0);
         }
-        if parameter && self.numbered {
+        if parameter && self.agreeing {
             self.parts.push(Part::Annotated);
         } else {
             self.annotations(20);
@@ -296,7 +316,7 @@ impl Grammar<'_> {
         self.token(b"(");
         for _ in 0..self.few() {
             self.parts.push(Part::Separators);
-            if self.numbered {
+            if self.agreeing {
                 self.parts.push(Part::Note);
             } else {
                 self.comments();
@@ -482,7 +502,7 @@ impl Joint<'_> {
             }
             Part::Annotated => {
                 if self.rng.percent(25) {
-                    let mut inner = Grammar { rng: self.rng, parts: Vec::new(), wrong: 0, chatty: 0, size: 2, numbered: true };
+                    let mut inner = Grammar { rng: self.rng, parts: Vec::new(), wrong: 0, chatty: 0, size: 2, ids: 0, odd: 0, agreeing: true };
                     inner.annotations(100);
                     let parts = inner.parts;
                     for part in &parts {
@@ -505,17 +525,24 @@ pub fn render(parts: &[Part], rng: &mut Rng, style: Style) -> Vec<u8> {
     joint.out
 }
 
-/// The parts of a document along the grammar, all its fields numbered.
-pub fn numbered(rng: &mut Rng) -> Vec<Part> {
+/// How many of a document's fields have an id, of 100: all, none, some.
+fn share(rng: &mut Rng) -> usize {
+    rng.one(&[100, 100, 0, 20, 50])
+}
+
+/// The parts of a document along the grammar; what is rendered of them agrees.
+pub fn agreeing(rng: &mut Rng) -> Vec<Part> {
     let (chatty, size, definitions) = (rng.one(&[0, 10, 30, 50]), rng.one(&[2, 3, 5]), rng.one(&[1, 1, 2, 3, 6]));
-    let mut grammar = Grammar { rng, parts: Vec::new(), wrong: 0, chatty, size, numbered: true };
+    let ids = share(rng);
+    let mut grammar = Grammar { rng, parts: Vec::new(), wrong: 0, chatty, size, ids, odd: 0, agreeing: true };
     grammar.document(definitions);
     grammar.parts
 }
 
-/// A document of so many definitions, all fields numbered.
+/// A document of so many definitions.
 pub fn long(rng: &mut Rng, definitions: usize) -> Vec<u8> {
-    let mut grammar = Grammar { rng, parts: Vec::new(), wrong: 0, chatty: 10, size: 5, numbered: true };
+    let ids = share(rng);
+    let mut grammar = Grammar { rng, parts: Vec::new(), wrong: 0, chatty: 10, size: 5, ids, odd: 0, agreeing: true };
     grammar.document(definitions);
     let parts = grammar.parts;
     let style = style(rng);
@@ -525,12 +552,61 @@ pub fn long(rng: &mut Rng, definitions: usize) -> Vec<u8> {
 /// A document; `wrong` as in Grammar.
 pub fn document(rng: &mut Rng, wrong: usize) -> Vec<u8> {
     let (chatty, size, definitions) = (rng.one(&[0, 10, 30, 50]), rng.one(&[2, 3, 4]), rng.one(&[1, 1, 1, 1, 2, 3]));
-    let numbered = rng.percent(40);
-    let mut grammar = Grammar { rng, parts: Vec::new(), wrong, chatty, size, numbered };
+    let (ids, odd) = (share(rng), rng.one(&[0, 0, 0, 3, 15]));
+    let mut grammar = Grammar { rng, parts: Vec::new(), wrong, chatty, size, ids, odd, agreeing: ids == 100 };
     grammar.document(definitions);
     let parts = grammar.parts;
     let style = style(rng);
     render(&parts, rng, style)
+}
+
+/// A body, parameters or thrown fields of a few tokens, such as may start fields.
+pub fn field_soup(rng: &mut Rng) -> Vec<u8> {
+    let frames: [(&[u8], &[u8]); 6] = [
+        (b"struct A{", b"}"), (b"union U{", b"}"), (b"exception X{1:i8 a;", b"}"), (b"service S{void f(", b")}"), (b"service S{i8 f()throws(", b")}"),
+        (b"service S{void f(a b,", b")throws(a b)}enum E{}"),
+    ];
+    let (head, tail) = rng.one(&frames);
+    let pieces: [&[u8]; 24] = [
+        b"required ", b"optional ", b"i8 ", b"a ", b"x ", b"list<i8>", b"A.b ", b"map<i8,a>", b"1:", b"1 ", b":", b"=1 ", b"='s'", b"(a='b')", b",", b";", b"#c\n", b"/*c*/",
+        b"void ", b"map ", b"(", b"struct ", b"1.5 ", b"]",
+    ];
+    let mut out = [rng.pick::<[u8]>(&[b"", b"#c\n", b"enum E{A}"]), head].concat();
+    if rng.percent(40) {
+        let pieces = &pieces[..rng.one(&[8, 18, 24])];
+        for _ in 0..1 + rng.below(12) {
+            out.extend_from_slice(rng.pick(pieces));
+        }
+    } else {
+        // the parts of a field, each there or not; sometimes one is gone, doubled or another
+        let slips = rng.one(&[0, 3, 10]);
+        let parts: [(usize, &[&[u8]]); 8] = [
+            (25, &[b"#c\n", b"/*c*/"]), (30, &[b"1:", b"2 :", b"+1:", b"007 :"]), (50, &[b"required ", b"optional "]), (100, &[b"i8 ", b"a ", b"x.y ", b"list<i8>", b"map<a,set<i8>>", b"binary\n"]),
+            (100, &[b"a ", b"b", b"list ", b"required ", b"optional", b"i8 "]), (25, &[b"=1 ", b"='s'", b"=[a,1]", b"=x "]), (15, &[b"(a='b')", b"()"]), (60, &[b",", b";", b" ,;"]),
+        ];
+        for _ in 0..1 + rng.below(4) {
+            for (chance, written) in parts {
+                if !rng.percent(chance) {
+                    continue;
+                }
+                let piece = rng.pick(written);
+                // two words need a blank between
+                if out.last().is_some_and(u8::is_ascii_alphanumeric) && piece.first().is_some_and(u8::is_ascii_alphanumeric) {
+                    out.push(b' ');
+                }
+                match if rng.percent(slips) { rng.below(3) } else { 3 } {
+                    0 => {}
+                    1 => out.extend_from_slice(rng.pick(&pieces)),
+                    2 => out.extend_from_slice(&[piece, b" ", piece].concat()),
+                    _ => out.extend_from_slice(piece),
+                }
+            }
+        }
+    }
+    if rng.percent(85) {
+        out.extend_from_slice(tail);
+    }
+    out
 }
 
 /// The text with CR LF for each newline, or with line ends of any kind; sometimes with one more behind it.
@@ -579,11 +655,13 @@ pub fn deep_value(depth: usize, form: usize, rng: &mut Rng) -> Vec<u8> {
 pub const TYPE_FRAMES: &[(&[u8], &[u8])] = &[
     (b"typedef ", b" T"), (b"const ", b" X=1"), (b"struct A{1:", b" a}"), (b"union U{x ", b" a=[[1]]}"), (b"service S{", b" f()}"),
     (b"service S{void f(1:", b" a)}"), (b"service S{void f()throws(1:", b" a)}"), (b"enum E{A}exception X{1:i8 list;2:optional ", b" a}"),
+    (b"struct A{", b" a}"), (b"service S{void f(a b,required ", b" a)}"), (b"service S{void f()throws(", b" a)}"),
     (b"const ", b" X=[[[[[[[[[[[[[[[[[[[[[[[[[[[[[[[[1]]]]]]]]]]]]]]]]]]]]]]]]]]]]]]]]"),
 ];
 pub const VALUE_FRAMES: &[(&[u8], &[u8])] = &[
     (b"const i8 X=", b""), (b"struct A{1:i8 a=", b"}"), (b"exception A{1:i8 a=", b"(a='b')}"), (b"service S{void f(1:i8 a=", b")}"),
-    (b"service S{void f()throws(1:i8 a=", b")}"), (b"const list<list<list<i8>>>X=", b"//c"),
+    (b"service S{void f()throws(1:i8 a=", b")}"), (b"const list<list<list<i8>>>X=", b"//c"), (b"struct A{optional i8 a=", b"}"),
+    (b"service S{void f(i8 a=", b")}"),
 ];
 
 /// Nesting around 32, whole or damaged.

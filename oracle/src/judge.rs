@@ -30,17 +30,36 @@ pub fn door(bytes: &[u8]) -> Result<&str, Refusal> {
 }
 
 pub fn judge(bytes: &[u8]) -> Answer {
+    judge_fields(bytes).0
+}
+
+/// The answer, and whether a field was begun with another token than an integer before the reading ended.
+/// Over rico unchanged the second is always false; over rico with the field rule of Change 4 it tells the texts on which the two rules may part.
+pub fn judge_fields(bytes: &[u8]) -> (Answer, bool) {
     let text = match door(bytes) {
         Ok(text) => text,
-        Err(refusal) => return Answer::Refused(refusal),
+        Err(refusal) => return (Answer::Refused(refusal), false),
     };
     let cut = cut(text);
     if let Some(at) = cut.unrecognized {
-        return Answer::Refused((22, at, 0));
+        return (Answer::Refused((22, at, 0)), false);
     }
+    Parser::probe_fields();
     let parsed = catch_unwind(AssertUnwindSafe(|| {
         Parser::new(text).parse().map_err(|e| e.probe_refusal())
     }));
+    // before the depth is judged: that reads other texts
+    let noted = Parser::probe_fields();
+    let answer = judged(text, &cut, parsed);
+    let otherwise = match answer {
+        // rico read on behind the 33rd container
+        Answer::Refused((23, place, _)) => noted.is_some_and(|at| at < place),
+        _ => noted.is_some(),
+    };
+    (answer, otherwise)
+}
+
+fn judged(text: &str, cut: &Cut, parsed: std::thread::Result<Result<Document, Refusal>>) -> Answer {
     match parsed {
         Ok(Ok(document)) => {
             let tables = flatten(&document);
@@ -49,13 +68,13 @@ pub fn judge(bytes: &[u8]) -> Answer {
                 None => Answer::Accepted(document, tables),
             }
         }
-        Ok(Err(refusal)) => match find(text, &cut, refusal.1) {
+        Ok(Err(refusal)) => match find(text, cut, refusal.1) {
             Depth::Within => Answer::Refused(refusal),
             Depth::Beyond(at, length) => Answer::Refused((23, at, length)),
             Depth::NotJudged => Answer::NotJudged,
         },
-        Err(_) => match find(text, &cut, usize::MAX) {
-            Depth::Within => Answer::Panic(end_rule(text, &cut)),
+        Err(_) => match find(text, cut, usize::MAX) {
+            Depth::Within => Answer::Panic(end_rule(text, cut)),
             Depth::Beyond(at, length) => Answer::Refused((23, at, length)),
             Depth::NotJudged => Answer::NotJudged,
         },

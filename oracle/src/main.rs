@@ -5,15 +5,16 @@
 //! oracle list tokens | answers   many as above; writes a whole list file (README.md has the format)
 //! oracle check                   many as above; the two ways of judging 23 must agree
 //!
-//! FORM: nodes, tokens, print INDENT, or raw (as nodes, but without the checks 20, 22 and 23: rico left to itself)
+//! FORM: nodes, tokens, print INDENT, raw (as nodes, but without the checks 20, 22 and 23: rico left to itself), or
+//! fields (outside if a field was begun with another token than an integer, else inside; known only over rico with the field rule of Change 4)
 
-use oracle::judge::{door, judge, Answer, LONGEST};
+use oracle::judge::{door, judge, judge_fields, Answer, LONGEST};
 use oracle::{depth, flatten, tokens};
 use rico::Writer;
 use std::fmt::Write as _;
 use std::io::{self, Read, Write};
 
-const USAGE: &str = "usage: oracle [batch] nodes|tokens|print INDENT|raw, oracle list tokens|answers, oracle check";
+const USAGE: &str = "usage: oracle [batch] nodes|tokens|print INDENT|raw|fields, oracle list tokens|answers, oracle check";
 
 /// Indents that answers.list keeps a print for.
 const INDENTS: [usize; 3] = [0, 2, 8];
@@ -29,6 +30,7 @@ enum Form {
     Tokens,
     Print(usize),
     Raw,
+    Fields,
 }
 
 fn run() {
@@ -63,6 +65,7 @@ fn form(args: &[&str]) -> Form {
         ["nodes"] => Form::Nodes,
         ["tokens"] => Form::Tokens,
         ["raw"] => Form::Raw,
+        ["fields"] => Form::Fields,
         ["print", indent] => Form::Print(indent.parse().expect(USAGE)),
         _ => fail(USAGE),
     }
@@ -95,6 +98,7 @@ fn answer(text: &[u8], form: &Form) -> String {
     match form {
         Form::Tokens => token_lines(text),
         Form::Raw => raw_lines(text),
+        Form::Fields => if judge_fields(text).1 { "outside\n" } else { "inside\n" }.to_string(),
         Form::Print(indent) if text.len() <= LONGEST && *indent > 8 => refusal((26, 0, 0)),
         Form::Nodes | Form::Print(_) => match judge(text) {
             Answer::Refused(r) => refusal(r),

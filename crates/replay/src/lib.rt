@@ -25,11 +25,6 @@ pub const NODES: usize = 9005;
 
 pub const COMMENTS: usize = 1804;
 
-// The kinds of two records, as the list's first byte of each.
-const FIELD: u8 = ast::kind::FIELD as u8;
-
-const ID: u8 = ast::kind::FIELD_ID as u8;
-
 // A count, and one more of it if so.
 fn one_more_if(so: bool, n: u32) -> u32
     ensures { λ r. ⌜ r ≡ cond so (bump n) n ⌝ }
@@ -88,34 +83,17 @@ pub fn read_number() -> u32 {
     number(&bytes, 0)
 }
 
-// The kind of the next record of the list.
-fn read_kind() -> u8 {
+// Passes over the next record of the list.
+fn pass_record() {
     let mut record = [0u8; 36];
     io::read_full(STDIN_FILENO, &mut record);
-    record[0]
 }
 
 // Passes over so many records of the list.
 pub fn pass_records(count: u32) {
     for _ in 0..count {
-        read_kind();
+        pass_record();
     }
-}
-
-// Whether each field among the next node records of the list has an id, which directly follows it.
-pub fn are_numbered(nodes: u32) -> bool {
-    let mut numbered = true;
-    let mut last: u8 = 0;
-    for _ in 0..nodes {
-        let kind = read_kind();
-        if last == FIELD {
-            if kind != ID {
-                numbered = false;
-            }
-        }
-        last = kind;
-    }
-    numbered
 }
 
 // Reads the next part of the list, its length and its bytes, to the start of a space; answers the length, 0 if the space is too short.

@@ -2,7 +2,7 @@
 // The lists of a text are the first call, the first two, and so on, so that what each call leaves is seen.
 //
 // The crate replay says what the list holds. Space, tables and output are full of sevens at first.
-// Then it makes each list again: a file once printed, whose fields are numbered, must stay.
+// If a printing of a list was kept, it makes that list again: a file once printed must stay.
 use replay::COMMENTS;
 use replay::NODES;
 use replay::SPACE;
@@ -20,12 +20,6 @@ const PRINTING: u32 = 1;
 
 // More than is there.
 const ALL: u32 = 4294967295;
-
-// A text's number in the list, and whether its fields are numbered.
-struct Case {
-    number: u32,
-    numbered: bool,
-}
 
 // How much of both tables and of the output a printing of a text takes.
 struct Needs {
@@ -60,22 +54,21 @@ struct Tally {
     differing: u32,
 }
 
-// Passes over what the list has for a text; whether it is accepted, and its fields are numbered.
-fn pass_answer() -> bool {
+// Passes over what the list has for a text.
+fn pass_answer() {
     let number = replay::read_number();
     replay::read_number();
     replay::read_number();
     if number != 0 {
-        return false;
+        return;
     }
     let nodes = replay::read_number();
     let comments = replay::read_number();
-    let numbered = replay::are_numbered(nodes);
+    replay::pass_records(nodes);
     replay::pass_records(comments);
     replay::pass_part();
     replay::pass_part();
     replay::pass_part();
-    numbered
 }
 
 fn less(n: u32) -> u32 {
@@ -424,11 +417,6 @@ fn stays(space: &mut [u8], other: &[u8], length: usize, number: u32, requests: &
     check::same(space, other)
 }
 
-// Whether a printing was kept, of a text whose fields are numbered.
-fn must_stay(case: Case, steps: Steps) -> bool {
-    if case.numbered { 0 < steps.kept } else { false }
-}
-
 // Whether two pairs of tables and two outputs are the same.
 fn same_lent(
     nodes: &[u32],
@@ -493,21 +481,20 @@ fn compare_in(
         .compared(check::same(space, spare))
 }
 
-// Makes a list of calls of a text, compares, and makes them again if the file must stay.
+// Makes a list of calls of a text, compares, and makes them again if a printing was kept: then the file must stay.
 fn compare_list(
     space: &mut [u8],
     spare: &mut [u8],
     text: &[u8],
-    case: Case,
+    number: u32,
     requests: &[u32],
     tally: Tally,
 ) -> Tally {
-    let number = case.number;
     fill(space, text);
     fill(spare, text);
     let steps = compare_in(space, spare, text.len(), number, requests);
     let now = tally.called(steps, short(requests.len() / 4));
-    if must_stay(case, steps) {
+    if 0 < steps.kept {
         return now.stayed(stays(space, spare, steps.length, number, requests));
     }
     now
@@ -518,32 +505,31 @@ fn compare_lists(
     space: &mut [u8],
     spare: &mut [u8],
     text: &[u8],
-    case: Case,
+    number: u32,
     tally: Tally,
 ) -> Tally {
-    let number = case.number;
     let requests = requests_for(needs_of(text, number % 10));
     let mut now = tally;
     for k in 0..CALLS {
         let end = k * 4 + 4;
-        now = compare_list(space, spare, text, case, &requests[..end], now);
+        now = compare_list(space, spare, text, number, &requests[..end], now);
     }
     now
 }
 
 // Makes the calls of a text in spaces of their own.
-fn compare_text(text: &[u8], case: Case, tally: Tally) -> Tally {
+fn compare_text(text: &[u8], number: u32, tally: Tally) -> Tally {
     let mut space: [u8; SPACE] = [7; SPACE];
     let mut spare: [u8; SPACE] = [7; SPACE];
-    let room = room_of(case.number, text.len());
-    compare_lists(&mut space[..room], &mut spare[..room], text, case, tally)
+    let room = room_of(number, text.len());
+    compare_lists(&mut space[..room], &mut spare[..room], text, number, tally)
 }
 
 // Makes the calls of the next text of the list.
 fn compare_next(space: &mut [u8], number: u32, tally: Tally) -> Tally {
     let length = replay::read_part(space);
-    let numbered = pass_answer();
-    compare_text(&space[..length], Case { number, numbered }, tally)
+    pass_answer();
+    compare_text(&space[..length], number, tally)
 }
 
 // Whether more differs, or was altered, than before.

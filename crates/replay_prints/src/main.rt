@@ -1,7 +1,7 @@
 // Prints each text of the list on standard input at 0, 2 and 8, and compares with rico's prints and refusals; then prints each print again.
 //
 // The crate replay says what the list holds. Tables and output are lent full of sevens; what lies past the answer must be 0 afterwards.
-// A print is printed again only if the text's fields are numbered: document 01 promises the same bytes for those.
+// A print has to be its own print, whether its fields are numbered or not.
 use lexer::error;
 use replay::COMMENTS;
 use replay::NODES;
@@ -167,11 +167,9 @@ impl Tally {
 }
 
 // Compares a text's print with this one, and this one with its own print.
-fn compare_print(text: &[u8], indent: u32, numbered: bool, print: &[u8], tally: Tally) -> Tally {
-    let mut now = tally.printed(same_print(text, indent, print));
-    if numbered {
-        now = now.printed_again(same_print(print, indent, print));
-    }
+fn compare_print(text: &[u8], indent: u32, print: &[u8], tally: Tally) -> Tally {
+    let first = tally.printed(same_print(text, indent, print));
+    let mut now = first.printed_again(same_print(print, indent, print));
     if indent == 2 {
         now = now.compared(is_short(text, print.len()));
     }
@@ -179,10 +177,10 @@ fn compare_print(text: &[u8], indent: u32, numbered: bool, print: &[u8], tally: 
 }
 
 // Compares a text's print with the next of the list.
-fn compare_next_print(text: &[u8], indent: u32, numbered: bool, tally: Tally) -> Tally {
+fn compare_next_print(text: &[u8], indent: u32, tally: Tally) -> Tally {
     let mut space: [u8; SPACE] = [0; SPACE];
     let length = replay::read_part(&mut space);
-    compare_print(text, indent, numbered, &space[..length], tally)
+    compare_print(text, indent, &space[..length], tally)
 }
 
 // Compares the three prints of an accepted text.
@@ -191,11 +189,11 @@ fn compare_prints(text: &[u8], tally: Tally) -> Tally {
     replay::read_number();
     let nodes = replay::read_number();
     let comments = replay::read_number();
-    let numbered = replay::are_numbered(nodes);
+    replay::pass_records(nodes);
     replay::pass_records(comments);
-    let first = compare_next_print(text, 0, numbered, tally);
-    let second = compare_next_print(text, 2, numbered, first);
-    compare_next_print(text, 8, numbered, second)
+    let first = compare_next_print(text, 0, tally);
+    let second = compare_next_print(text, 2, first);
+    compare_next_print(text, 8, second)
 }
 
 // Compares what is answered for a text.

@@ -18,7 +18,6 @@ compare-list-spec =
     (λ c κs. search needs)
     (λ c κs. search needs)
     (λ c κs. search needs)
-    (λ c κs. search needs)
     same-length
     (λ c. search needs)
     (λ c. search needs)

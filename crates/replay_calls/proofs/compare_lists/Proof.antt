@@ -9,10 +9,10 @@ use Rattle.replay_calls.proofs.compare_lists.Statement.{statement}
 use Rattle.replay_calls.proofs.compare_lists.Tie as tie
 
 abbrev Inv-loop : tie.InvT-loop
-Inv-loop space₀ spare₀ text case number requests now₀ k₀ space spare now k = (length space ≡ length space₀) × (length spare ≡ length spare₀)
+Inv-loop space₀ spare₀ text number requests now₀ k₀ space spare now k = (length space ≡ length space₀) × (length spare ≡ length spare₀)
 
 abbrev μ-loop : tie.MeasureT-loop
-μ-loop space₀ spare₀ text case number requests now₀ k₀ space spare now k = 12 - k
+μ-loop space₀ spare₀ text number requests now₀ k₀ space spare now k = 12 - k
 
 loop-holds : tie.Need-loop-holds Inv-loop μ-loop
 loop-holds c = (refl, refl)

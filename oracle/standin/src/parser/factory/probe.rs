@@ -3,6 +3,13 @@
 
 use crate::parser::error::ParseError;
 use crate::parser::{Parser, ParserToken};
+use std::cell::Cell;
+
+thread_local! {
+    /// The offset of the first field that was begun with another token than an integer.
+    /// Only rico with the field rule of Change 4 (fields.patch) sets it.
+    static OTHERWISE: Cell<Option<usize>> = const { Cell::new(None) };
+}
 
 impl<'a> Parser<'a> {
     /// The next token with its places, by rico's create_parser_token; for a parser that never parsed.
@@ -17,6 +24,18 @@ impl<'a> Parser<'a> {
                 (None, failed.then_some(span.start))
             }
         }
+    }
+
+    /// A field is begun, and the token in hand is no integer.
+    pub(crate) fn probe_field(&self) {
+        if let Some(token) = &self.cur_token {
+            OTHERWISE.set(OTHERWISE.get().or(Some(token.span.start)));
+        }
+    }
+
+    /// What was noted in this thread since the last call.
+    pub fn probe_fields() -> Option<usize> {
+        OTHERWISE.take()
     }
 }
 
