@@ -52,7 +52,7 @@ void hirvelan_place(const uint8_t *text, size_t text_length, uint32_t offset, ui
  * A request is four numbers: 0 for a reading, else a printing with `indent` spaces a level; how many numbers of `nodes` and of `comments` and bytes of `out` the call is lent, all if there are fewer.
  * Numbers behind the last whole request are passed over. An accepted printing makes the bytes it wrote the file, with zeros behind them, if the space holds them;
  * any other call leaves file and space. What a call is lent is afterwards as in hirvelan_read and hirvelan_print.
- * No list of requests at one indent alters a file once printed at it, if its fields are numbered and its print has at most HIRVELAN_LONGEST bytes (proved: the contract's Unaltered, crates/file/specs/Run).
+ * No list of requests at one indent alters a file once printed at it, if its print has at most HIRVELAN_LONGEST bytes (proved: the contract's Unaltered, crates/file/specs/Run).
  * The caller sees to: no pointer is null, also if its length is 0; each is valid for its length and aligned; space, nodes, comments and out overlap neither each other nor the requests. */
 size_t hirvelan_run(uint8_t *space, size_t space_length, size_t file, uint32_t indent, const uint32_t *requests, size_t requests_length, uint32_t *nodes, size_t nodes_length, uint32_t *comments, size_t comments_length, uint8_t *out, size_t out_length);
 

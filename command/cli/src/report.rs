@@ -62,7 +62,7 @@ fn culprit(text: &[u8], refusal: &Refusal) -> String {
 
 /// `file:line:col: refused N: ..`, the line, a caret, and what to do.
 pub fn refusal(name: &OsStr, text: &[u8], refusal: &Refusal) -> String {
-    let words = explain::words(refusal.number);
+    let words = explain::words(text, refusal);
     let place = hirvelan::place(text, refusal.place);
     let mut out = format!("{}:{}:{}: refused {}: {}\n", shown(name), place.line, place.column, refusal.number, words.wrong);
     if explain::has_place(refusal.number) {
@@ -73,7 +73,7 @@ pub fn refusal(name: &OsStr, text: &[u8], refusal: &Refusal) -> String {
 }
 
 pub fn refusal_json(name: &OsStr, text: &[u8], refusal: &Refusal) -> Vec<u8> {
-    let words = explain::words(refusal.number);
+    let words = explain::words(text, refusal);
     let place = hirvelan::place(text, refusal.place);
     named(name, "refused")
         .number("number", refusal.number.into())

@@ -92,14 +92,15 @@ fn list_nodes(task: &Task, input: &Input, text: &[u8], out: &mut Output) {
     }
 }
 
-/// Why a print is no good in the file's place: it would not stay as it is when printed again. Claim 3 leaves these two cases only.
+/// Why a print is no good in the file's place: it would not stay as it is when printed again.
+/// By claim 3 that is so only of a print that is too long to be read; it is tried all the same before a file is written.
 fn unstable(printed: &[u8], indent: u32) -> Option<&'static str> {
     if hirvelan::print(printed, indent).is_ok_and(|again| again == printed) {
         None
     } else if printed.len() > hirvelan::LONGEST {
         Some("its print has more than 65536 bytes and could not be read again; split the file")
     } else {
-        Some("a field, parameter or exception has no number, so its first word is passed over and gets lost; number it, as in `1: i32 name`")
+        Some("its print would not stay as it is when printed again; this can't be the file's fault, please report it")
     }
 }
 

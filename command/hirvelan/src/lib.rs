@@ -114,7 +114,7 @@ pub fn place(text: &[u8], offset: u32) -> Place {
 
 /// Makes readings and printings of one file, one after another, with so many spaces a level; the length of the file afterwards.
 /// The file is the first `file` bytes of its space, all of it if `file` is more. An accepted printing makes the bytes it wrote the file, with zeros behind them, if the space holds them.
-/// No list of requests at one indent alters a file once printed at it, if its fields are numbered and its print has at most `LONGEST` bytes.
+/// No list of requests at one indent alters a file once printed at it, if its print has at most `LONGEST` bytes.
 pub fn run(space: &mut [u8], file: usize, indent: u32, requests: &[Request], nodes: &mut [u32], comments: &mut [u32], out: &mut [u8]) -> usize {
     let numbers: Vec<u32> = requests.iter().flat_map(|r| [u32::from(r.prints), r.nodes, r.comments, r.out]).collect();
     raw::run(space, file, indent, &numbers, nodes, comments, out)
@@ -151,6 +151,20 @@ mod tests {
     }
 
     #[test]
+    fn a_run_keeps_fields_without_numbers() {
+        let text = b"service S{void f(i32 a)throws(B b)}struct A{required i32 a}";
+        let print = b"service S {\n  void f(i32 a) throws (B b)\n}\nstruct A {\n  required i32 a,\n}\n";
+        let mut space = vec![7; 100];
+        space[..text.len()].copy_from_slice(text);
+        let (mut nodes, mut comments, mut out) = (vec![7; 200], vec![7; 10], vec![7; 100]);
+        let mut length = text.len();
+        for _ in 0..3 {
+            length = run(&mut space, length, 2, &[call(true, ALL, ALL, ALL), call(false, ALL, ALL, 0), call(true, ALL, ALL, ALL)], &mut nodes, &mut comments, &mut out);
+            assert_eq!(&space[..length], &print[..]);
+        }
+    }
+
+    #[test]
     fn a_run_holds_the_file_to_its_space() {
         let text = b"enum E{A}";
         let (mut nodes, mut comments, mut out) = (vec![0; 90], vec![0; 9], vec![0; 90]);
@@ -177,6 +191,8 @@ mod tests {
         assert_eq!((reading.nodes.len(), reading.comments.len()), (6, 0));
         assert_eq!(reading.nodes[0], [7, 4_294_967_295, 0, 0, 1, 1, 17, 1, 18]);
         assert_eq!(reading.nodes[5], [16, 2, 0, 15, 1, 16, 16, 1, 17]);
+        let reading = read(b"struct A{required i32 a}").unwrap();
+        assert_eq!((reading.nodes.len(), reading.nodes[2]), (5, [12, 0, 1, 9, 1, 10, 23, 1, 24]));
     }
 
     #[test]
