@@ -24,6 +24,9 @@ TEXTS = {
     "keywords": lambda n: filled("struct A{", "".join("1:" + field for field in FIELDS), n),
     "names": lambda n: filled("enum A{", LONG, n),
     "prefixes": lambda n: filled("enum A{", NEAR, n),
+    # fields, with numbers and without
+    "fields": lambda n: filled("struct A{", "1: required i32 height, ", n),
+    "unnumbered": lambda n: filled("struct A{", "required i32 height, ", n),
     "members": lambda n: "enum A{" + "a " * ((n - 8) // 2) + "}",
 }
 if len(sys.argv) < 3:
