@@ -1,7 +1,7 @@
 -- How many records trees have, and how wide they are.
 --     rows-size, node-rows-size   as many node records as nodes
 --     note-count, notes-count     as many comment records as comments
---     row-width                   each record has as many numbers as the width says
+--     row-width, node-row-width   each record has as many numbers as its width says
 --     concat-width                so a table of records has as many times that
 --     filled-length               and is as long afterwards as it was lent
 use mathlib.Core.Path.{_≡_, refl, ap}
@@ -15,9 +15,11 @@ use Rattle.ast.specs.Ast.{Definition}
 use Rattle.ast.specs.Lists.{All, anil, acons}
 use Rattle.ast.specs.Tree.{Tree, node, Forest, bare, grown}
 use Rattle.ast.specs.Records.{
-  width,
+  commentWidth,
+  nodeWidth,
   noParent,
   row,
+  nodeRow,
   size,
   sizes,
   rows,
@@ -79,15 +81,19 @@ pub notes-count : (ds : List Definition) → length (notes ds) ≡ noteCounts (f
 unfolding notes
 notes-count ds = note-counts (forest ds) 0
 
--- ---- the width
-
-pub row-width : (k p f : ℕ) (l : LOC) → length (row k p f l) ≡ width
-unfolding row width
-row-width k p f l = refl
+-- ---- the widths
 
 -- a row of so many numbers
-abbrev pub Wide : List ℕ → Type 0
-Wide r = length r ≡ width
+abbrev pub Wide : ℕ → List ℕ → Type 0
+Wide w r = length r ≡ w
+
+pub row-width : (k p f : ℕ) (l : LOC) → Wide commentWidth (row k p f l)
+unfolding row commentWidth
+row-width k p f l = refl
+
+pub node-row-width : (k p f : ℕ) (l : LOC) (e : ℕ) → Wide nodeWidth (nodeRow k p f l e)
+unfolding nodeRow row nodeWidth
+node-row-width k p f l e = refl
 
 pub append-all : {A : Type 0} {W : A → Type 0} {xs ys : List A} → All W xs → All W ys → All W (xs ++ ys)
 append-all anil h = h
@@ -96,14 +102,14 @@ append-all (acons g gs) h = acons g (append-all gs h)
 mutual
   unfolding rows
 
-  pub rows-wide : (t : Tree) (p n : ℕ) → All Wide (rows t p n)
-  rows-wide (node k f l w c ts) p n = acons (row-width k p f l) (forest-wide ts n (suc n))
+  pub rows-wide : (t : Tree) (p n : ℕ) → All (Wide nodeWidth) (rows t p n)
+  rows-wide (node k f l w c ts) p n = acons (node-row-width k p f l _) (forest-wide ts n (suc n))
 
-  pub forest-wide : (f : Forest) (p n : ℕ) → All Wide (rowsOf f p n)
+  pub forest-wide : (f : Forest) (p n : ℕ) → All (Wide nodeWidth) (rowsOf f p n)
   forest-wide bare p n = anil
   forest-wide (grown t ts) p n = append-all (rows-wide t p n) (forest-wide ts p (n + size t))
 
-pub owned-wide : (n : ℕ) (c : List Lexeme) → All Wide (owned n c)
+pub owned-wide : (n : ℕ) (c : List Lexeme) → All (Wide commentWidth) (owned n c)
 unfolding owned commentRow
 owned-wide n [] = anil
 owned-wide n (lexeme k w l ∷ c) = acons (row-width _ n 0 l) (owned-wide n c)
@@ -111,25 +117,25 @@ owned-wide n (lexeme k w l ∷ c) = acons (row-width _ n 0 l) (owned-wide n c)
 mutual
   unfolding commentRows
 
-  comment-rows-wide : (t : Tree) (n : ℕ) → All Wide (commentRows t n)
+  comment-rows-wide : (t : Tree) (n : ℕ) → All (Wide commentWidth) (commentRows t n)
   comment-rows-wide (node k f l w c ts) n = append-all (owned-wide n c) (comments-wide ts (suc n))
 
-  pub comments-wide : (f : Forest) (n : ℕ) → All Wide (commentRowsOf f n)
+  pub comments-wide : (f : Forest) (n : ℕ) → All (Wide commentWidth) (commentRowsOf f n)
   comments-wide bare n = anil
   comments-wide (grown t ts) n = append-all (comment-rows-wide t n) (comments-wide ts (n + size t))
 
-pub node-rows-wide : (ds : List Definition) → All Wide (nodeRows ds)
+pub node-rows-wide : (ds : List Definition) → All (Wide nodeWidth) (nodeRows ds)
 unfolding nodeRows
 node-rows-wide ds = forest-wide (forest ds) noParent 0
 
-pub notes-wide : (ds : List Definition) → All Wide (notes ds)
+pub notes-wide : (ds : List Definition) → All (Wide commentWidth) (notes ds)
 unfolding notes
 notes-wide ds = comments-wide (forest ds) 0
 
-pub concat-width : {rs : List (List ℕ)} → All Wide rs → length (concat rs) ≡ length rs * width
-unfolding concat width
-concat-width anil = refl
-concat-width (acons {x = r} {xs = rs} h hs) = omega (arith, length-append r (concat rs), h, concat-width hs)
+pub concat-width : {w : ℕ} {rs : List (List ℕ)} → All (Wide w) rs → length (concat rs) ≡ length rs * w
+unfolding concat
+concat-width {w} anil = omega arith
+concat-width {w} (acons {x = r} {xs = rs} h hs) = omega (arith, length-append r (concat rs), h, concat-width hs)
 
 pub filled-length : (rs : List (List ℕ)) (table : List ℕ) → length (concat rs) ≤ length table → length (filled rs table) ≡ length table
 unfolding filled

@@ -1,10 +1,10 @@
 -- The records of a tree whose places are moved are the records of the tree, each with its place moved.
---     rows-moved       the nodes, for any map of spans, and a map of rows that does to a row what it does to a place
+--     rows-moved       the nodes, for any map of spans, and a map of rows that does to a row what it does to a place, whatever stands behind it
 --     notes-moved      the comments, for the same
 --     rows-unlined     the nodes without lines and columns
 --     notes-unlined    the comments without lines and columns
-use mathlib.Core.Path.{_≡_, refl, ap}
-use mathlib.Core.List.{List, [], _∷_}
+use mathlib.Core.Path.{_≡_, refl, sym, ap, ap₂}
+use mathlib.Core.List.{List, [], _∷_, _++_}
 use mathlib.Core.Option.{Option, some, none}
 use Prim.Native.Nat.{ℕ, suc, _+_}
 use Rattle.lexer.specs.declared.location.Span.{Span}
@@ -50,7 +50,7 @@ use Rattle.ast.specs.Ast.{
 }
 use Rattle.ast.specs.Kind as K
 use Rattle.ast.specs.Tree.{Tree, node, Forest, bare, grown, leaf, inner, single, both, each, perhaps, nameTree, idTree, typeTree, literalTree, valueTree, elementTrees, propertyTrees, annotationTree, annotationsTree, fieldTree, memberTree, throwsFlag, throwsTrees, functionTree, definitionTree}
-use Rattle.ast.specs.Records.{row, size, sizes, rows, rowsOf, commentRow, owned, commentRows, commentRowsOf, forest, nodeRows, notes, noParent}
+use Rattle.ast.specs.Records.{row, nodeRow, size, sizes, rows, rowsOf, commentRow, owned, commentRows, commentRowsOf, forest, nodeRows, notes, noParent}
 use Rattle.ast.specs.Move.{moveLoc, moveL, moves, moveType, moveValue, moveElements, moveProperties, moveAnnotation, moveAnnotations, moveField, moveMember, moveFunction, moveDefinition, move, unlined, unlinedRow}
 use Rattle.ast.proofs.Maps.{maps-append}
 
@@ -179,20 +179,23 @@ module _ (h : Span → Span) where
     sizes-moved bare = refl
     sizes-moved (grown t ts) = simp (size-moved t, sizes-moved ts)
 
-  module _ (g : List ℕ → List ℕ) (moved : (k p f : ℕ) (l : LOC) → g (row k p f l) ≡ row k p f (moveLoc h l)) where
+  module _ (g : List ℕ → List ℕ) (moved : (k p f : ℕ) (l : LOC) (more : List ℕ) → g (row k p f l ++ more) ≡ row k p f (moveLoc h l) ++ more) where
     mutual
-      unfolding rows rowsOf moveTree moveForest maps
+      unfolding rows rowsOf nodeRow size moveTree moveForest maps
 
       tree-rows : (t : Tree) (p n : ℕ) → rows (moveTree h t) p n ≡ maps g (rows t p n)
-      tree-rows (node k f l w c ts) p n = simp (moved, forest-rows ts n (suc n))
+      tree-rows (node k f l w c ts) p n =
+          let t = node k f l w c ts in
+          let e : row k p f (moveLoc h l) ++ (n + size (moveTree h t)) ∷ [] ≡ g (row k p f l ++ (n + size t) ∷ []) = rw (size-moved t) (sym (moved k p f l ((n + size t) ∷ []))) in
+          ap₂ _∷_ e (forest-rows ts n (suc n))
 
       forest-rows : (ts : Forest) (p n : ℕ) → rowsOf (moveForest h ts) p n ≡ maps g (rowsOf ts p n)
       forest-rows bare p n = refl
       forest-rows (grown t ts) p n = simp (maps-append, size-moved t, tree-rows t p n, forest-rows ts p (n + size t))
 
     comment-row : (o : ℕ) (t : Lexeme) → commentRow o (moveL h t) ≡ g (commentRow o t)
-    unfolding commentRow moveL
-    comment-row o (lexeme k w l) = simp moved
+    unfolding commentRow moveL row
+    comment-row o (lexeme k w l) = sym (moved _ o 0 l [])
 
     owned-rows : (o : ℕ) (c : List Lexeme) → owned o (moves h c) ≡ maps g (owned o c)
     unfolding owned moves maps
@@ -219,9 +222,9 @@ module _ (h : Span → Span) where
 
 -- ---- without lines and columns
 
-row-unlined : (k p f : ℕ) (l : LOC) → unlinedRow (row k p f l) ≡ row k p f (moveLoc unlined l)
+row-unlined : (k p f : ℕ) (l : LOC) (more : List ℕ) → unlinedRow (row k p f l ++ more) ≡ row k p f (moveLoc unlined l) ++ more
 unfolding unlinedRow row unlined
-row-unlined k p f l = refl
+row-unlined k p f l more = refl
 
 pub rows-unlined : (ds : List Definition) → nodeRows (move unlined ds) ≡ maps unlinedRow (nodeRows ds)
 rows-unlined = rows-moved unlined unlinedRow row-unlined

@@ -1,4 +1,4 @@
--- Where its numbers stand in a record, by document 01's order, from 0: `row` (Records) lays them so. The kind is the first.
+-- Where its numbers stand in a record, by the papers' order, from 0: `row` and `nodeRow` (Records) lay them so. The kind is the first.
 use Prim.Native.Nat.{ℕ}
 
 abbrev pub Parent : ℕ
@@ -13,3 +13,7 @@ Start = 3
 
 abbrev pub End : ℕ
 End = 6
+
+-- a node's: the record number just past its last descendant
+abbrev pub Past : ℕ
+Past = 9

@@ -1,4 +1,4 @@
--- Document 01's records: trees laid out as rows of numbers, and the tables that hold them.
+-- The records of document 01, with the tenth number of document 02 (Change 7): trees laid out as rows of numbers, and the tables that hold them.
 use mathlib.Core.Bool.{cond}
 use mathlib.Core.List.{List, [], _∷_, _++_}
 use Prim.Native.Nat.{ℕ, suc, _+_, _-_, _/_}
@@ -11,9 +11,12 @@ use Rattle.ast.specs.Ast.{Definition}
 use Rattle.ast.specs.Kind as K
 use Rattle.ast.specs.Tree.{Tree, node, Forest, bare, grown, each, definitionTree}
 
--- THE RECORD'S WIDTH
-unfoldable pub width : ℕ
-width = 9
+-- THE WIDTHS of a comment record and of a node record
+unfoldable pub commentWidth : ℕ
+commentWidth = 9
+
+unfoldable pub nodeWidth : ℕ
+nodeWidth = 10
 
 -- the parent of a definition
 unfoldable pub noParent : ℕ
@@ -23,6 +26,10 @@ noParent = 4294967295
 unfoldable pub row : ℕ → ℕ → ℕ → LOC → List ℕ
 row k p f l =
     k ∷ p ∷ f ∷ l .start .index ∷ l .start .line ∷ l .start .column ∷ l .end .index ∷ l .end .line ∷ l .end .column ∷ []
+
+-- a node's: these, and the record number just past its last descendant
+unfoldable pub nodeRow : ℕ → ℕ → ℕ → LOC → ℕ → List ℕ
+nodeRow k p f l e = row k p f l ++ e ∷ []
 
 -- how many records a tree has
 unfoldable mutual
@@ -36,7 +43,7 @@ unfoldable mutual
 -- each record directly followed by all its descendants: the rows of a tree whose parent is p and whose own number is n
 unfoldable mutual
   pub rows : Tree → ℕ → ℕ → List (List ℕ)
-  rows (node k f l w c ts) p n = row k p f l ∷ rowsOf ts n (suc n)
+  rows (node k f l w c ts) p n = nodeRow k p f l (n + size (node k f l w c ts)) ∷ rowsOf ts n (suc n)
 
   pub rowsOf : Forest → ℕ → ℕ → List (List ℕ)
   rowsOf bare p n = []
@@ -69,9 +76,9 @@ nodeRows ds = rowsOf (forest ds) noParent 0
 unfoldable pub notes : List Definition → List (List ℕ)
 notes ds = commentRowsOf (forest ds) 0
 
--- how many records a table holds
-unfoldable pub room : List ℕ → ℕ
-room table = length table / width
+-- how many records of so many numbers a table holds
+unfoldable pub room : ℕ → List ℕ → ℕ
+room width table = length table / width
 
 unfoldable pub concat : List (List ℕ) → List ℕ
 concat [] = []

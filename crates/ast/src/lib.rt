@@ -6,8 +6,10 @@ pub mod kind;
 ghost use mathlib.Core.Path.{_≡_};
 ghost use Rattle.ast.specs.Largest.{bump};
 
-// The numbers of a record.
-pub const WIDTH: usize = 9;
+// The numbers of a comment record, and of a node record.
+pub const COMMENT_WIDTH: usize = 9;
+
+pub const NODE_WIDTH: usize = 10;
 
 // The parent of a definition, and of what lies behind the last record.
 pub const NO_PARENT: u32 = 4294967295;

@@ -14,6 +14,8 @@ use lib.Dec.{eqb}
 use lib.ListN.{length, take, drop, set}
 use lib.Seq.{set-split}
 use Rattle.token.specs.Regex.{bytes as ascii}
+use Rattle.ast.specs.Column as C
+use Rattle.ast.specs.Records.{commentWidth, nodeWidth}
 use Rattle.cursor.specs.declared.Cursor.{Cursor}
 use Rattle.cursor.specs.Onto.{Reached, reached, then, _⨟_, stay, numberAt, putOut, sayOut, partOut, tokenOut, spacesOut, parentAt, commentOut, commentsFrom, passComment, passCommentsFrom, passNode, below, passBelowFrom}
 use Rattle.cursor.proofs.Chain.{kept, last}
@@ -21,26 +23,26 @@ use Rattle.cursor.proofs.Chain.{kept, last}
 -- ---- put_token and put_comment
 
 module _ (text t : List ℕ) (a b : ℕ) (p : Cursor) (o : List ℕ) where
-  pub token-is : (q r : Cursor) (o₁ : List ℕ) → a ≡ numberAt t (p .node) 3 → b ≡ numberAt t (p .node) 6
+  pub token-is : (q r : Cursor) (o₁ : List ℕ) → a ≡ numberAt nodeWidth t (p .node) C.Start → b ≡ numberAt nodeWidth t (p .node) C.End
       → reached q o₁ ≡ partOut text a b p o → reached r o₁ ≡ passNode q o₁ → reached r o₁ ≡ tokenOut text t p o
   unfolding tokenOut then
   token-is q r o₁ h k e f =
-      let g : reached q o₁ ≡ partOut text (numberAt t (p .node) 3) (numberAt t (p .node) 6) p o = e ∙ rw (h, k) in
+      let g : reached q o₁ ≡ partOut text (numberAt nodeWidth t (p .node) C.Start) (numberAt nodeWidth t (p .node) C.End) p o = e ∙ rw (h, k) in
       f ∙ ap (λ (x : Reached). then x passNode) g
 
   module _ (indent : ℕ) where
     comment-one : commentOut text t indent p o
-        ≡ then (spacesOut indent p o) (partOut text (numberAt t (p .comment) 3) (numberAt t (p .comment) 6) ⨟ (putOut (10 ∷ []) ⨟ passComment))
+        ≡ then (spacesOut indent p o) (partOut text (numberAt commentWidth t (p .comment) C.Start) (numberAt commentWidth t (p .comment) C.End) ⨟ (putOut (10 ∷ []) ⨟ passComment))
     unfolding commentOut sayOut ascii
     comment-one = refl
 
-    pub comment-is : (q₁ q₂ q₃ r : Cursor) (o₁ o₂ o₃ : List ℕ) → a ≡ numberAt t (p .comment) 3 → b ≡ numberAt t (p .comment) 6
+    pub comment-is : (q₁ q₂ q₃ r : Cursor) (o₁ o₂ o₃ : List ℕ) → a ≡ numberAt commentWidth t (p .comment) C.Start → b ≡ numberAt commentWidth t (p .comment) C.End
         → reached q₁ o₁ ≡ spacesOut indent p o → reached q₂ o₂ ≡ partOut text a b q₁ o₁ → reached q₃ o₃ ≡ putOut (10 ∷ []) q₂ o₂ → reached r o₃ ≡ passComment q₃ o₃
         → reached r o₃ ≡ commentOut text t indent p o
     comment-is q₁ q₂ q₃ r o₁ o₂ o₃ h k e₁ e₂ e₃ f =
         let Z : Reached = commentOut text t indent p o in
-        let x : ℕ = numberAt t (p .comment) 3 in
-        let y : ℕ = numberAt t (p .comment) 6 in
+        let x : ℕ = numberAt commentWidth t (p .comment) C.Start in
+        let y : ℕ = numberAt commentWidth t (p .comment) C.End in
         let g : reached q₂ o₂ ≡ partOut text x y q₁ o₁ = e₂ ∙ rw (h, k) in
         let v₁ = kept Z (spacesOut indent p o) (partOut text x y ⨟ (putOut (10 ∷ []) ⨟ passComment)) comment-one q₁ o₁ e₁ in
         let v₂ = kept Z (partOut text x y q₁ o₁) (putOut (10 ∷ []) ⨟ passComment) v₁ q₂ o₂ g in
@@ -91,12 +93,12 @@ module _ (text comments : List ℕ) (total owner indent : ℕ) (Z : Reached) (n 
   unfolding commentsFrom
   comments-none h = let e : n ≡ 0 = omega arith in sym (v ∙ ap (λ (k : ℕ). commentsFrom text comments total owner indent k p o) e)
 
-  comments-one : 0 < n → Z ≡ cond (eqb (parentAt comments total (p .comment)) owner)
+  comments-one : 0 < n → Z ≡ cond (eqb (parentAt commentWidth comments total (p .comment)) owner)
       (then (commentOut text comments indent p o) (commentsFrom text comments total owner indent (n - 1))) (reached p o)
   unfolding commentsFrom
   comments-one h = let e : n ≡ suc (n - 1) = omega arith in v ∙ ap (λ (k : ℕ). commentsFrom text comments total owner indent k p o) e
 
-  module _ (x : ℕ) (h : 0 < n) (g : x ≡ parentAt comments total (p .comment)) where
+  module _ (x : ℕ) (h : 0 < n) (g : x ≡ parentAt commentWidth comments total (p .comment)) where
     pub comments-stop : (x ≡ owner → ⊥) → reached p o ≡ Z
     comments-stop l = sym (comments-one h ∙ rw (sym g, ne-eqb x owner l))
 
@@ -112,11 +114,11 @@ module _ (comments : List ℕ) (total owner : ℕ) (Z : Reached) (n : ℕ) (p : 
   unfolding passCommentsFrom
   passed-none h = let e : n ≡ 0 = omega arith in sym (v ∙ ap (λ (k : ℕ). passCommentsFrom comments total owner k p o) e)
 
-  passed-one : 0 < n → Z ≡ cond (eqb (parentAt comments total (p .comment)) owner) (then (passComment p o) (passCommentsFrom comments total owner (n - 1))) (reached p o)
+  passed-one : 0 < n → Z ≡ cond (eqb (parentAt commentWidth comments total (p .comment)) owner) (then (passComment p o) (passCommentsFrom comments total owner (n - 1))) (reached p o)
   unfolding passCommentsFrom
   passed-one h = let e : n ≡ suc (n - 1) = omega arith in v ∙ ap (λ (k : ℕ). passCommentsFrom comments total owner k p o) e
 
-  module _ (x : ℕ) (h : 0 < n) (g : x ≡ parentAt comments total (p .comment)) where
+  module _ (x : ℕ) (h : 0 < n) (g : x ≡ parentAt commentWidth comments total (p .comment)) where
     pub passed-stop : (x ≡ owner → ⊥) → reached p o ≡ Z
     passed-stop l = sym (passed-one h ∙ rw (sym g, ne-eqb x owner l))
 
@@ -130,11 +132,11 @@ module _ (nodes : List ℕ) (count owner : ℕ) (Z : Reached) (n : ℕ) (p : Cur
   unfolding passBelowFrom
   below-none h = let e : n ≡ 0 = omega arith in sym (v ∙ ap (λ (k : ℕ). passBelowFrom nodes count owner k p o) e)
 
-  below-one : 0 < n → Z ≡ cond (below owner (parentAt nodes count (p .node))) (then (passNode p o) (passBelowFrom nodes count owner (n - 1))) (reached p o)
+  below-one : 0 < n → Z ≡ cond (below owner (parentAt nodeWidth nodes count (p .node))) (then (passNode p o) (passBelowFrom nodes count owner (n - 1))) (reached p o)
   unfolding passBelowFrom
   below-one h = let e : n ≡ suc (n - 1) = omega arith in v ∙ ap (λ (k : ℕ). passBelowFrom nodes count owner k p o) e
 
-  module _ (x : ℕ) (r : Bool) (h : 0 < n) (g : x ≡ parentAt nodes count (p .node)) (f : r ≡ below owner x) where
+  module _ (x : ℕ) (r : Bool) (h : 0 < n) (g : x ≡ parentAt nodeWidth nodes count (p .node)) (f : r ≡ below owner x) where
     pub below-stop : r ≡ false → reached p o ≡ Z
     below-stop l = sym (below-one h ∙ rw (sym g, sym f, l))
 

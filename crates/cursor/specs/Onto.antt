@@ -10,7 +10,7 @@ use lib.ListN.{length, take, drop, getD}
 use Rattle.token.specs.Regex.{bytes as ascii}
 use Rattle.ast.specs.Column as C
 use Rattle.ast.specs.Largest.{bump}
-use Rattle.ast.specs.Records.{width, noParent}
+use Rattle.ast.specs.Records.{commentWidth, nodeWidth, noParent}
 use Rattle.cursor.specs.declared.Cursor.{Cursor}
 
 -- where the printer stands and the output afterwards
@@ -34,15 +34,15 @@ Writes m p r o o′ = reached r o′ ≡ m p o
 abbrev pub Moves : W → Cursor → Cursor → Type 0
 Moves m p r = (o : List ℕ) → reached r o ≡ m p o
 
--- a number of a record
-unfoldable pub numberAt : List ℕ → ℕ → ℕ → ℕ
-numberAt t r k = cond (leb width k) 0 (getD t (r * width + k) 0)
+-- a number of a record, in a table of records of w numbers
+unfoldable pub numberAt : ℕ → List ℕ → ℕ → ℕ → ℕ
+numberAt w t r k = cond (leb w k) 0 (getD t (r * w + k) 0)
 
 unfoldable pub kindAt : List ℕ → ℕ → ℕ → ℕ
-kindAt t count r = cond (ltb r count) (numberAt t r 0) 0
+kindAt t count r = cond (ltb r count) (numberAt nodeWidth t r 0) 0
 
-unfoldable pub parentAt : List ℕ → ℕ → ℕ → ℕ
-parentAt t count r = cond (ltb r count) (numberAt t r C.Parent) noParent
+unfoldable pub parentAt : ℕ → List ℕ → ℕ → ℕ → ℕ
+parentAt w t count r = cond (ltb r count) (numberAt w t r C.Parent) noParent
 
 unfoldable pub passNode : W
 passNode p o = reached (record { node = bump (p .node); comment = p .comment; length = p .length }) o
@@ -67,7 +67,7 @@ unfoldable pub partOut : List ℕ → ℕ → ℕ → W
 partOut text a b p o = cond (ltb (length text) b) (reached p o) (cond (ltb b a) (reached p o) (putOut (take (b - a) (drop a text)) p o))
 
 unfoldable pub tokenOut : List ℕ → List ℕ → W
-tokenOut text nodes p o = then (partOut text (numberAt nodes (p .node) C.Start) (numberAt nodes (p .node) C.End) p o) passNode
+tokenOut text nodes p o = then (partOut text (numberAt nodeWidth nodes (p .node) C.Start) (numberAt nodeWidth nodes (p .node) C.End) p o) passNode
 
 unfoldable pub spacesOut : ℕ → W
 spacesOut zero = stay
@@ -76,12 +76,12 @@ spacesOut (suc n) = sayOut " " ⨟ spacesOut n
 -- the comment ahead, on a line of its own
 unfoldable pub commentOut : List ℕ → List ℕ → ℕ → W
 commentOut text comments indent p o =
-    then (spacesOut indent p o) (partOut text (numberAt comments (p .comment) C.Start) (numberAt comments (p .comment) C.End) ⨟ (sayOut "\n" ⨟ passComment))
+    then (spacesOut indent p o) (partOut text (numberAt commentWidth comments (p .comment) C.Start) (numberAt commentWidth comments (p .comment) C.End) ⨟ (sayOut "\n" ⨟ passComment))
 
 unfoldable pub commentsFrom : List ℕ → List ℕ → ℕ → ℕ → ℕ → ℕ → W
 commentsFrom text comments total owner indent zero p o = reached p o
 commentsFrom text comments total owner indent (suc n) p o =
-    cond (eqb (parentAt comments total (p .comment)) owner) ((commentOut text comments indent ⨟ commentsFrom text comments total owner indent n) p o) (reached p o)
+    cond (eqb (parentAt commentWidth comments total (p .comment)) owner) ((commentOut text comments indent ⨟ commentsFrom text comments total owner indent n) p o) (reached p o)
 
 unfoldable pub commentsOut : List ℕ → List ℕ → ℕ → ℕ → ℕ → W
 commentsOut text comments total owner indent = commentsFrom text comments total owner indent total
@@ -89,7 +89,7 @@ commentsOut text comments total owner indent = commentsFrom text comments total 
 unfoldable pub passCommentsFrom : List ℕ → ℕ → ℕ → ℕ → W
 passCommentsFrom comments total owner zero p o = reached p o
 passCommentsFrom comments total owner (suc n) p o =
-    cond (eqb (parentAt comments total (p .comment)) owner) ((passComment ⨟ passCommentsFrom comments total owner n) p o) (reached p o)
+    cond (eqb (parentAt commentWidth comments total (p .comment)) owner) ((passComment ⨟ passCommentsFrom comments total owner n) p o) (reached p o)
 
 unfoldable pub passComments : List ℕ → ℕ → ℕ → W
 passComments comments total owner = passCommentsFrom comments total owner total
@@ -101,7 +101,7 @@ below owner parent = cond (ltb parent owner) false (cond (eqb parent noParent) f
 unfoldable pub passBelowFrom : List ℕ → ℕ → ℕ → ℕ → W
 passBelowFrom nodes count owner zero p o = reached p o
 passBelowFrom nodes count owner (suc n) p o =
-    cond (below owner (parentAt nodes count (p .node))) ((passNode ⨟ passBelowFrom nodes count owner n) p o) (reached p o)
+    cond (below owner (parentAt nodeWidth nodes count (p .node))) ((passNode ⨟ passBelowFrom nodes count owner n) p o) (reached p o)
 
 unfoldable pub passBelow : List ℕ → ℕ → ℕ → W
 passBelow nodes count owner = passBelowFrom nodes count owner count

@@ -15,7 +15,7 @@ use Rattle.lexer.specs.Outcome as O
 use Rattle.lexer.specs.Outcome.{Outcome, refused}
 use Rattle.lexer.specs.Limit.{limit}
 use Rattle.ast.specs.Ast.{Definition}
-use Rattle.ast.specs.Records.{nodeRows, notes, room}
+use Rattle.ast.specs.Records.{commentWidth, nodeWidth, nodeRows, notes, room}
 use Rattle.parser.specs.Read as R
 use Rattle.parser.specs.Read.{outcome, reading, rowsBy}
 use Rattle.parser.proofs.Paid.{read-bounds}
@@ -75,7 +75,7 @@ pub leaves-print : (indent : ℕ) (c : Call) (f : List ℕ) (ds : List Definitio
 unfolding answers leaves printsIt R.fitted
 leaves-print indent (reads ns cs) f ds = refl
 leaves-print indent (prints ns cs out) f ds =
-    kept-by (ltb (room ns) (length (nodeRows ds))) (ltb (room cs) (length (notes ds))) _ _ _ (printed indent ds) out f refl
+    kept-by (ltb (room nodeWidth ns) (length (nodeRows ds))) (ltb (room commentWidth cs) (length (notes ds))) _ _ _ (printed indent ds) out f refl
 
 -- ---- the list of calls
 

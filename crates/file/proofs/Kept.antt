@@ -9,7 +9,7 @@ use lib.ListN.{length, take}
 use lib.Seq.{take-append-seam}
 use borrow.Author.Tests.{le-leb}
 use Rattle.ast.specs.Ast.{Definition}
-use Rattle.ast.specs.Records.{nodeRows, notes, room}
+use Rattle.ast.specs.Records.{commentWidth, nodeWidth, nodeRows, notes, room}
 use Rattle.writer.specs.Print.{printed}
 use Rattle.lexer.specs.Outcome.{accepted, refused}
 use Rattle.parser.specs.Read.{fitted}
@@ -38,7 +38,7 @@ settled-file : (indent : ℕ) (q : Request) (m : Memory) (ds : List Definition) 
 unfolding settled callOf answers leaves fitted
 settled-file indent (ask false a b c) m ds h = refl
 settled-file indent (ask true a b c) m ds h =
-    kept-in (ltb (room (take a (m .nodes))) (length (nodeRows ds))) (ltb (room (take b (m .comments))) (length (notes ds)))
+    kept-in (ltb (room nodeWidth (take a (m .nodes))) (length (nodeRows ds))) (ltb (room commentWidth (take b (m .comments))) (length (notes ds)))
     _ _ _ (printed indent ds) (take c (m .output)) (m .file) refl h
 
 after-file : (indent : ℕ) (q : Request) (m : Memory) (ds : List Definition) → length (printed indent ds) ≤ length (m .file .space) →

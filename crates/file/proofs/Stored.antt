@@ -17,7 +17,7 @@ use borrow.Author.Tests.{leb-true, leb-false, le-leb, lt-leb}
 use lib.ListN.{length, take, drop, getD, replicate, length-append, length-take, length-drop, length-replicate, drop-of-length-le}
 use lib.Seq.{take-all, take-at, drop-cons, length-take-le}
 use Rattle.lexer.specs.Outcome.{Outcome, accepted, refused}
-use Rattle.ast.specs.Records.{nodeRows, notes, room}
+use Rattle.ast.specs.Records.{commentWidth, nodeWidth, nodeRows, notes, room}
 use Rattle.parser.specs.declared.Answer.{Answer}
 use Rattle.ast.specs.Ast.{Definition}
 use Rattle.parser.specs.Read.{fitted, Reading, reading}
@@ -120,7 +120,7 @@ says-in : (o : Outcome (List Definition)) (indent : ℕ) (ns cs out ks : List �
 unfolding W.answer fitted printOf
 says-in (refused e p l) indent ns cs out ks h = absurd (clash _ _ _ _ h)
 says-in (accepted ds) indent ns cs out ks h =
-    fitted-in (ltb (room ns) (length (nodeRows ds))) (ltb (room cs) (length (notes ds))) _ _ _ (printed indent ds) out ks refl h
+    fitted-in (ltb (room nodeWidth ns) (length (nodeRows ds))) (ltb (room commentWidth cs) (length (notes ds))) _ _ _ (printed indent ds) out ks refl h
 
 printing-in : (t : List ℕ) (indent : ℕ) (ns cs out ks : List ℕ)
     → printing t indent ns cs out .says ≡ accepted ks → bytesWritten ks ≤ length (printing t indent ns cs out .output)

@@ -1,4 +1,4 @@
--- The refusals, by document 01's numbers. Up to 19 they are rico's ParseErrorKind (parser/error.rs), in its order;
+-- The refusals, by the papers' numbers. Up to 19 they are rico's ParseErrorKind (parser/error.rs), in its order;
 -- 5 and 7 are left out: rico raises them only with no token left, where the end rule gives 3 or 1.
 use Prim.Native.Nat.{ℕ}
 
@@ -77,3 +77,7 @@ IndentTooWide = 26
 
 abbrev pub OutputFull : ℕ
 OutputFull = 27
+
+-- a stored table that can't be moved (document 02, Change 7)
+abbrev pub NotMovable : ℕ
+NotMovable = 33

@@ -1,4 +1,4 @@
-// The refusals, by document 01's numbers: rico's ParseErrorKind in its order. 5 and 7 are left out: rico raises them only with no token left, where the end rule gives 3 or 1.
+// The refusals, by the papers' numbers: rico's ParseErrorKind in its order. 5 and 7 are left out: rico raises them only with no token left, where the end rule gives 3 or 1.
 pub const UNRECOGNIZED_TOKEN: u32 = 1;
 
 pub const UNEXPECTED_TOKEN: u32 = 2;
@@ -49,3 +49,6 @@ pub const COMMENTS_FULL: u32 = 25;
 pub const INDENT_TOO_WIDE: u32 = 26;
 
 pub const OUTPUT_FULL: u32 = 27;
+
+// A stored table that can't be moved.
+pub const NOT_MOVABLE: u32 = 33;

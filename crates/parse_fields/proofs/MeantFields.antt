@@ -72,7 +72,7 @@ use Rattle.steps.specs.Into.{
   putNode,
   nodeIn,
   takeIn,
-  parents,
+  owners,
   owns,
   ownIn,
   skipIn,
@@ -82,7 +82,7 @@ use Rattle.steps.specs.Into.{
 }
 use Rattle.parse_values.specs.Into.{typeIn, valueIn}
 use Rattle.parse_fields.specs.Into.{tokenIn, nameIn, oneSeparatorIn, annotationIn, annotationListIn, annotationsIn, idIn, fieldIdIn, requiredOf, skipRequired, fieldNameIn, defaultIn, fieldHeadIn, fieldTailIn, fieldIn, skipMemberIn, membersIn}
-use Rattle.ast.specs.Records.{row}
+use Rattle.ast.specs.Records.{nodeWidth, nodeRow}
 use Rattle.parser.proofs.KindLaws.{one-test, one-kind}
 use Rattle.steps.proofs.SkipLaws.{separator-test, separators-m, discard-m, comments-m}
 use Rattle.parse_fields.proofs.KindTests.{name-test}
@@ -135,12 +135,12 @@ module _ {A : Type 0} {Q : A → State → List ℕ → List ℕ → St → Type
   unfolding after nodeIn
   noded n k f x b p st t u j h = h
 
-  leafed : (k b p : ℕ) (st : State) (t u : List ℕ) (j : M) → Meant Q (j (opened st) (put (placeOf b (st .next)) (row k p 0 (unpackedLoc (st .last))) t) u) r
+  leafed : (k b p : ℕ) (st : State) (t u : List ℕ) (j : M) → Meant Q (j (opened st) (put nodeWidth (placeOf b (st .next)) (nodeRow k p 0 (unpackedLoc (st .last)) (opened st .next)) t) u) r
       → Meant Q (after (leafIn k b p st t u) j) r
   unfolding after leafIn
   leafed k b p st t u j h = h
 
-  pub owning : (st : State) (t u : List ℕ) (j : M) → Meant Q (j (owns (opened st)) t (parents (st .owned) (st .waiting) (st .next) u)) r
+  pub owning : (st : State) (t u : List ℕ) (j : M) → Meant Q (j (owns (opened st)) t (owners (st .owned) (st .waiting) (st .next) u)) r
       → Meant Q (after (ownIn (st .next) (opened st) t u) j) r
   unfolding after ownIn opened
   owning st t u j h = h

@@ -11,7 +11,7 @@ use Rattle.lexer.specs.Location.{between, opening}
 use Rattle.lexer.specs.Tokens.{tokens}
 use Rattle.lexer.specs.Check.{checked}
 use Rattle.ast.specs.Ast.{Definition}
-use Rattle.ast.specs.Records.{nodeRows, notes, room, filled, cleared}
+use Rattle.ast.specs.Records.{commentWidth, nodeWidth, nodeRows, notes, room, filled, cleared}
 use Rattle.parser.specs.Steps.{Res, ok, no, pos}
 use Rattle.parser.specs.Definitions.{parseDocument}
 use Rattle.parser.specs.declared.Answer.{Answer}
@@ -41,8 +41,8 @@ outcome t = outcomeBy (checked t) t
 -- then 24 and 25; the counts of nodes and of comments
 unfoldable pub fitted : List Definition → List ℕ → List ℕ → Outcome (List ℕ)
 fitted ds nodes comments =
-    cond (ltb (room nodes) (length (nodeRows ds))) (refused NodesFull 0 0)
-    (cond (ltb (room comments) (length (notes ds))) (refused CommentsFull 0 0) (accepted (length (nodeRows ds) ∷ length (notes ds) ∷ [])))
+    cond (ltb (room nodeWidth nodes) (length (nodeRows ds))) (refused NodesFull 0 0)
+    (cond (ltb (room commentWidth comments) (length (notes ds))) (refused CommentsFull 0 0) (accepted (length (nodeRows ds) ∷ length (notes ds) ∷ [])))
 
 unfoldable pub answer : Outcome (List Definition) → List ℕ → List ℕ → Outcome (List ℕ)
 answer (accepted ds) nodes comments = fitted ds nodes comments

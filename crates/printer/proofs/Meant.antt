@@ -7,6 +7,7 @@ use mathlib.Core.Logic.{inl, ⊎-elim}
 use mathlib.Core.Bool.{Bool, true, false, cond}
 use mathlib.Core.List.{List, [], _∷_, _++_, append-nil, append-assoc}
 use Prim.Native.Nat.{ℕ, suc, _+_, _*_, _-_, _/_, _≤_, _<_}
+use native.Mathlib.Nat.{le-div-iff-mul-le, mul-div-cancel}
 use native.Mathlib.Omega.{arith}
 use lib.Dec.{ltb}
 use lib.ListN.{length, take, drop, replicate, length-append, length-drop, length-replicate}
@@ -20,8 +21,8 @@ use Rattle.lexer.specs.Limit.{limit}
 use Rattle.ast.specs.Lists.{All, anil, acons}
 use Rattle.ast.specs.Ast.{Definition}
 use Rattle.ast.specs.Tree.{Tree, node, Forest, bare, grown, each, definitionTree}
-use Rattle.ast.specs.Records.{width, noParent, row, size, rows, rowsOf, commentRow, owned, commentRows, commentRowsOf, forest, nodeRows, notes, room, concat, filled, cleared}
-use Rattle.ast.proofs.Counts.{node-rows-wide, notes-wide, concat-width, filled-length, cleared-same}
+use Rattle.ast.specs.Records.{commentWidth, nodeWidth, noParent, nodeRow, size, rows, rowsOf, commentRow, owned, commentRows, commentRowsOf, forest, nodeRows, notes, room, concat, filled, cleared}
+use Rattle.ast.proofs.Counts.{Wide, node-rows-wide, notes-wide, concat-width, filled-length, cleared-same}
 use Rattle.parser.specs.Steps.{Res, ok, no}
 use Rattle.parser.specs.Read as R
 use Rattle.parser.specs.Read.{parsed, answered, outcomeBy, outcome, left, rowsBy, reading}
@@ -42,7 +43,7 @@ mutual
   unfolding under unders rows rowsOf
 
   pub rows-under : (t : Tree) (q n : ℕ) (X : Rows) → rows t q n ++ X ≡ under t q n X
-  rows-under (node k f l w c ts) q n X = ap (λ (y : Rows). row k q f l ∷ y) (forest-under ts n (suc n) X)
+  rows-under (node k f l w c ts) q n X = ap (λ (y : Rows). nodeRow k q f l (n + size (node k f l w c ts)) ∷ y) (forest-under ts n (suc n) X)
 
   pub forest-under : (ts : Forest) (q n : ℕ) (X : Rows) → rowsOf ts q n ++ X ≡ unders ts q n X
   forest-under bare q n X = refl
@@ -79,38 +80,51 @@ unfolding notes forest
 notes-rows-under ds = sym (append-nil (commentRowsOf (each definitionTree ds bare) 0)) ∙ notes-forest (each definitionTree ds bare) 0 []
 
 -- rows end to end are those rows
-ahead-rows : (rs X : Rows) → rs ≡ X → Ahead (concat rs) (length rs) 0 X
-unfolding width
-ahead-rows rs X e =
+ahead-rows : (w : ℕ) (rs X : Rows) → rs ≡ X → Ahead w (concat rs) (length rs) 0 X
+ahead-rows w rs X e =
     record {
       pad = [];
-      lies = ap concat e ∙ sym (append-nil (concat X));
+      lies = let z : 0 * w ≡ 0 = omega arith in rw z (ap concat e ∙ sym (append-nil (concat X)));
       counts = let h : length X ≡ length rs = ap length (sym e) in omega (arith, h);
     }
 
-rows-room : (rs : Rows) → length (concat rs) ≡ length rs * width → room (concat rs) ≡ length rs
-unfolding room width
-rows-room rs w = omega (arith, w)
+-- rows of w numbers
+module _ {w : ℕ} (some : 0 < w) {rs : Rows} (wide : All (Wide w) rs) where
+  rows-room : room w (concat rs) ≡ length rs
+  unfolding room
+  rows-room = rw (concat-width wide) (mul-div-cancel (length rs) some)
 
--- rows that the table has room for
-fills : (rs : Rows) (t : List ℕ) → length (concat rs) ≡ length rs * width → ltb (room t) (length rs) ≡ false → length (filled rs t) ≡ length t
-unfolding room width
-fills rs t w e = filled-length rs t (omega (arith, ltb-false (length t / 9) (length rs) e, w))
+  -- that the table has room for
+  module _ (t : List ℕ) (e : ltb (room w t) (length rs) ≡ false) where
+    in-table : length (concat rs) ≤ length t
+    unfolding room
+    in-table = rw (concat-width wide) (le-div-iff-mul-le {k = w} {x = length rs} {y = length t} some .0 (ltb-false (length t / w) (length rs) e))
 
--- and the part of it that they fill
-used-end : (rs : Rows) (t : List ℕ) → length (concat rs) ≡ length rs * width → ltb (room t) (length rs) ≡ false → restAt (length (filled rs t)) (length rs) ≡ length (concat rs)
-unfolding restAt room width
-used-end rs t w e = go (ltb (length rs * 9) (length (filled rs t))) refl
-  where
-    go : (b : Bool) → ltb (length rs * 9) (length (filled rs t)) ≡ b → restAt (length (filled rs t)) (length rs) ≡ length (concat rs)
-    go true h = rw h (omega (arith, w))
-    go false h = rw h (omega (arith, w, fills rs t w e, ltb-false (length t / 9) (length rs) e, ltb-false (length rs * 9) (length (filled rs t)) h))
+    fills : length (filled rs t) ≡ length t
+    fills = filled-length rs t in-table
 
-used-filled : (rs : Rows) (t : List ℕ) → length (concat rs) ≡ length rs * width → ltb (room t) (length rs) ≡ false → used (length rs) (filled rs t) ≡ concat rs
-unfolding used filled
-used-filled rs t w e =
-    ap (λ (n : ℕ). take n (concat rs ++ replicate (length t - length (concat rs)) 0)) (used-end rs t w e)
-    ∙ take-append-seam (concat rs) (replicate (length t - length (concat rs)) 0)
+    -- and the part of it that they fill
+    used-end : restAt (length rs * w) (length (filled rs t)) ≡ length (concat rs)
+    unfolding restAt
+    used-end = rw (sym (concat-width wide), fills) (go (ltb (length (concat rs)) (length t)) refl)
+      where
+        go : (b : Bool) → ltb (length (concat rs)) (length t) ≡ b → cond b (length (concat rs)) (length t) ≡ length (concat rs)
+        go true h = refl
+        go false h = omega (arith, in-table, ltb-false (length (concat rs)) (length t) h)
+
+    used-filled : used w (length rs) (filled rs t) ≡ concat rs
+    unfolding used filled
+    used-filled =
+        ap (λ (n : ℕ). take n (concat rs ++ replicate (length t - length (concat rs)) 0)) used-end
+        ∙ take-append-seam (concat rs) (replicate (length t - length (concat rs)) 0)
+
+some-node : 0 < nodeWidth
+unfolding nodeWidth
+some-node = omega arith
+
+some-comment : 0 < commentWidth
+unfolding commentWidth
+some-comment = omega arith
 
 -- ---- what is lent and cleared again
 
@@ -158,7 +172,7 @@ good-definitions text ds (no n l) e a = let z : _≡_ {A = ℕ} 0 1 = cc in absu
 -- ---- what was read is written
 
 module _ (text : List ℕ) (indent : ℕ) (t u o : List ℕ) (ds : List Definition) (found : outcome text ≡ accepted ds) (good : All (EachDefinition (Good text)) ds)
-    (t-room : ltb (room t) (length (nodeRows ds)) ≡ false) (u-room : ltb (room u) (length (notes ds)) ≡ false) where
+    (t-room : ltb (room nodeWidth t) (length (nodeRows ds)) ≡ false) (u-room : ltb (room commentWidth u) (length (notes ds)) ≡ false) where
   abbrev job : Job
   job =
       record {
@@ -178,16 +192,16 @@ module _ (text : List ℕ) (indent : ℕ) (t u o : List ℕ) (ds : List Definiti
   at-first =
       record {
         node = refl;
-        nodes-ahead = ahead-rows (nodeRows ds) _ (node-rows-under ds);
-        notes-ahead = ahead-rows (notes ds) _ (notes-rows-under ds);
+        nodes-ahead = ahead-rows nodeWidth (nodeRows ds) _ (node-rows-under ds);
+        notes-ahead = ahead-rows commentWidth (notes ds) _ (notes-rows-under ds);
         bytes = inl (record { done = []; all = refl; inside = omega arith; long = refl; out = refl });
       }
 
   t-long : length (filled (nodeRows ds) t) ≡ length t
-  t-long = fills (nodeRows ds) t (concat-width (node-rows-wide ds)) t-room
+  t-long = fills some-node (node-rows-wide ds) t t-room
 
   u-long : length (filled (notes ds) u) ≡ length u
-  u-long = fills (notes ds) u (concat-width (notes-wide ds)) u-room
+  u-long = fills some-comment (notes-wide ds) u u-room
 
   -- the answer, by whether the print fits
   abbrev result : Printing
@@ -218,9 +232,9 @@ module _ (text : List ℕ) (indent : ℕ) (t u o : List ℕ) (ds : List Definiti
   written-means : writing text indent (length (nodeRows ds)) (length (notes ds)) (filled (nodeRows ds) t) (filled (notes ds) u) o ≡ result
   unfolding writing pieces
   written-means =
-      let wide = concat-width (node-rows-wide ds) in
-      let broad = concat-width (notes-wide ds) in
-      rw (used-filled (nodeRows ds) t wide t-room, used-filled (notes ds) u broad u-room, rows-room (nodeRows ds) wide, rows-room (notes ds) broad)
+      let wide = node-rows-wide ds in
+      let broad = notes-wide ds in
+      rw (used-filled some-node wide t t-room, used-filled some-comment broad u u-room, rows-room some-node wide, rows-room some-comment broad)
       (at-last (document-printed job indent ds opening o good at-first))
 
 -- ---- the whole
@@ -257,9 +271,9 @@ module _ (text : List ℕ) (indent : ℕ) (t u o : List ℕ) where
   read-given : (ds : List Definition) → outcome text ≡ accepted ds → All (EachDefinition (Good text)) ds →
       let a = R.fitted ds t u in byAnswer a text indent (left a (nodeRows ds) t) (left a (notes ds) u) o ≡ given (accepted ds)
   unfolding R.fitted byAnswer answer fittedOut left written rowsBy printOf
-  read-given ds found good = go (ltb (room t) (length (nodeRows ds))) refl (ltb (room u) (length (notes ds))) refl
+  read-given ds found good = go (ltb (room nodeWidth t) (length (nodeRows ds))) refl (ltb (room commentWidth u) (length (notes ds))) refl
     where
-      go : (a : Bool) → ltb (room t) (length (nodeRows ds)) ≡ a → (b : Bool) → ltb (room u) (length (notes ds)) ≡ b →
+      go : (a : Bool) → ltb (room nodeWidth t) (length (nodeRows ds)) ≡ a → (b : Bool) → ltb (room commentWidth u) (length (notes ds)) ≡ b →
           let a = R.fitted ds t u in byAnswer a text indent (left a (nodeRows ds) t) (left a (notes ds) u) o ≡ given (accepted ds)
       go true h b k = rw h (refused-given 24 0 0)
       go false h true k = rw (h, k) (refused-given 25 0 0)

@@ -5,10 +5,10 @@
 --     all-refused, all-accepted    the reading refused the text, and the reading accepted it
 use mathlib.Core.Path.{_≡_, sym, ap, _∙_}
 use mathlib.Core.List.{List, [], _∷_, _++_}
-use Prim.Native.Nat.{ℕ, _-_, _≤_, _<_}
+use Prim.Native.Nat.{ℕ, _*_, _-_, _≤_, _<_}
 use borrow.Author.Tests.{lt-ltb, le-ltb}
 use lib.ListN.{length, take, replicate}
-use Rattle.ast.specs.Records.{room}
+use Rattle.ast.specs.Records.{commentWidth, nodeWidth, room}
 use Rattle.parser.specs.declared.Answer.{Answer}
 use Rattle.parser.specs.declared.Answer.the-variants as A
 use Rattle.parser.specs.Read.{Reading, reading, said, told as read-told}
@@ -37,8 +37,8 @@ pub fits-is : (n c len : ℕ) (t u o o′ : List ℕ) → len ≤ length o → o
 unfolding fits
 fits-is n c len t u o o′ h e = rw (le-ltb (length o) len h, as-wiped len o o′ e)
 
-pub written-is : (text : List ℕ) (indent n c : ℕ) (t u o o′ : List ℕ) (p : Cursor) (r : Printing) (a b : ℕ) → a ≡ restAt (length t) n → b ≡ restAt (length u) c
-    → reached p o′ ≡ documentOut text (take a t) (room (take a t)) (take b u) (room (take b u)) indent (record { node = 0; comment = 0; length = 0 }) o
+pub written-is : (text : List ℕ) (indent n c : ℕ) (t u o o′ : List ℕ) (p : Cursor) (r : Printing) (a b : ℕ) → a ≡ restAt (n * nodeWidth) (length t) → b ≡ restAt (c * commentWidth) (length u)
+    → reached p o′ ≡ documentOut text (take a t) (room nodeWidth (take a t)) (take b u) (room commentWidth (take b u)) indent (record { node = 0; comment = 0; length = 0 }) o
     → r ≡ fits n c (p .length) t u o′ → r ≡ writing text indent n c t u o
 unfolding writing used ended opening
 written-is text indent n c t u o o′ p r a b h k e f = f ∙ ap (λ (i : Reached). ended i n c t u) e ∙ rw (h, k)

@@ -2,12 +2,12 @@
 -- believe it.
 use mathlib.Core.Bool.{cond}
 use mathlib.Core.List.{List, [], _∷_}
-use Prim.Native.Nat.{ℕ}
+use Prim.Native.Nat.{ℕ, _*_}
 use lib.Dec.{ltb}
 use lib.ListN.{length, take, getD}
 use Rattle.lexer.specs.Error.{TextTooLong, IndentTooWide, OutputFull}
 use Rattle.lexer.specs.Outcome.{Outcome, accepted, refused}
-use Rattle.ast.specs.Records.{room, cleared}
+use Rattle.ast.specs.Records.{commentWidth, nodeWidth, room, cleared}
 use Rattle.parser.specs.Read.{Reading, reading}
 use Rattle.steps.specs.Into.{restAt, wiped}
 use Rattle.lexer.specs.Limit.{limit}
@@ -32,12 +32,15 @@ fits n c len t u o =
 unfoldable pub ended : Reached → ℕ → ℕ → List ℕ → List ℕ → Printing
 ended (reached p o) n c t u = fits n c (p .length) t u o
 
--- the first records of a table
-unfoldable pub used : ℕ → List ℕ → List ℕ
-used n t = take (restAt (length t) n) t
+-- the first n records of a table of records of w numbers
+unfoldable pub used : ℕ → ℕ → List ℕ → List ℕ
+used w n t = take (restAt (n * w) (length t)) t
 
 unfoldable pub writing : List ℕ → ℕ → ℕ → ℕ → List ℕ → List ℕ → List ℕ → Printing
-writing text indent n c t u o = ended (documentOut text (used n t) (room (used n t)) (used c u) (room (used c u)) indent opening o) n c t u
+writing text indent n c t u o =
+    let t′ = used nodeWidth n t in
+    let u′ = used commentWidth c u in
+    ended (documentOut text t′ (room nodeWidth t′) u′ (room commentWidth u′) indent opening o) n c t u
 
 -- by what the reading answered
 unfoldable pub byAnswer : Outcome (List ℕ) → List ℕ → ℕ → List ℕ → List ℕ → List ℕ → Printing

@@ -67,8 +67,8 @@ fn write(
         comment: 0,
         length: 0,
     };
-    let last = table::start_of(nodes.len(), n);
-    let end = table::start_of(comments.len(), c);
+    let last = table::rest_at(n as usize * ast::NODE_WIDTH, nodes.len());
+    let end = table::rest_at(c as usize * ast::COMMENT_WIDTH, comments.len());
     let behind = write_definitions::write_document(
         text,
         &nodes[..last],

@@ -23,7 +23,7 @@ use Rattle.lexer.proofs.PlaceLaws.{opening-placed}
 use Rattle.ast.specs.Lists.{anil}
 use Rattle.ast.specs.Ast.{Definition}
 use Rattle.ast.specs.Tree.{Forest, bare, single, each, definitionTree}
-use Rattle.ast.specs.Records.{width, noParent, sizes, rowsOf, owned, commentRowsOf, forest, nodeRows, notes, room}
+use Rattle.ast.specs.Records.{commentWidth, nodeWidth, noParent, sizes, rowsOf, owned, commentRowsOf, forest, nodeRows, notes, room}
 use Rattle.ast.proofs.Counts.{
   forest-wide,
   comments-wide,
@@ -46,7 +46,7 @@ use Rattle.steps.specs.Into.{Out, done, stop, refused, closesAt, lexerAt, restA
 use Rattle.reader.specs.Into.{inRest, restIn, overIn, betweenIn, documentIn, beginning, refusing, ended, refusingAt, fits, judged, unscanned, settled, parsing}
 use Rattle.reader.proofs.Whole.{read-unknown}
 use Rattle.steps.proofs.PackLaws.{unpacked-packed, loc-back, small-span}
-use Rattle.steps.proofs.TableLaws.{lay, lay-append, length-lay, lay-rest, wiped-lay}
+use Rattle.steps.proofs.TableLaws.{lay, lay-append, length-lay, lay-rest, wiped-lay, node-some, comment-some}
 use Rattle.steps.proofs.ForestLaws.{_⊕_, sizes-plus, counts-plus, rows-plus, notes-plus}
 use Rattle.parser.proofs.Paid.{tokens-bound}
 use Rattle.steps.proofs.Seen.{Sound, AheadOf, lexer-span, advance-ahead, moved, waitingOf, Frame, At, Meant, went, halted}
@@ -80,7 +80,7 @@ module _ {text : List ℕ} {i : ℕ} {fr : Frame} {f : Forest} {st : State} {t u
         wide = append-all (h .wide) (comments-wide f (fr .number));
       }
 
-  back-at : {g : Forest} {st′ : State} {t′ u′ : List ℕ} {s′ : St} (k : ℕ) → k ≡ restAt (length t) (st .next)
+  back-at : {g : Forest} {st′ : State} {t′ u′ : List ℕ} {s′ : St} (k : ℕ) → k ≡ restAt (st .next * nodeWidth) (length t)
       → At text i (st .next) noParent (rest fr f (st .next) (drop k t)) g st′ t′ u′ s′ → At text i 0 noParent fr (f ⊕ g) st′ (take k t ++ t′) u′ s′
   back-at {g = g} {st′ = st′} {t′ = t′} {s′ = s′} k e d =
       let n = st .next in
@@ -94,18 +94,18 @@ module _ {text : List ℕ} {i : ℕ} {fr : Frame} {f : Forest} {st : State} {t u
         ahead = d .ahead;
         next = d .next ∙ omega (arith, h .next, sizes-plus f g);
         nodes =
-            ap (λ (y : List ℕ). take k t ++ y) (d .nodes ∙ ap (λ (y : ℕ). lay y ys (drop k t)) z)
-            ∙ ap (λ (y : ℕ). take y t ++ lay 0 ys (drop y t)) e
-            ∙ lay-rest n t (forest-wide g noParent n)
-            ∙ ap (lay n ys) (h .nodes)
-            ∙ ap (λ (y : ℕ). lay y ys (lay (m - 0) xs (fr .nodes))) (sym q)
-            ∙ sym (lay-append (m - 0) xs ys (fr .nodes))
-            ∙ ap (λ (y : List (List ℕ)). lay (m - 0) y (fr .nodes)) (ap (λ (y : ℕ). xs ++ rowsOf g noParent y) (h .next) ∙ sym (rows-plus f g noParent m));
+            ap (λ (y : List ℕ). take k t ++ y) (d .nodes ∙ ap (λ (y : ℕ). lay nodeWidth y ys (drop k t)) z)
+            ∙ ap (λ (y : ℕ). take y t ++ lay nodeWidth 0 ys (drop y t)) e
+            ∙ lay-rest nodeWidth node-some n t (forest-wide g noParent n)
+            ∙ ap (lay nodeWidth n ys) (h .nodes)
+            ∙ ap (λ (y : ℕ). lay nodeWidth y ys (lay nodeWidth (m - 0) xs (fr .nodes))) (sym q)
+            ∙ sym (lay-append nodeWidth node-some (m - 0) xs ys (fr .nodes))
+            ∙ ap (λ (y : List (List ℕ)). lay nodeWidth (m - 0) y (fr .nodes)) (ap (λ (y : ℕ). xs ++ rowsOf g noParent y) (h .next) ∙ sym (rows-plus f g noParent m));
         count = d .count ∙ omega (arith, rows-at fr f, counts-plus f g);
         waits = d .waits;
         comments =
             d .comments
-            ∙ ap (λ (y : List (List ℕ)). lay 0 (y ++ owned 0 (waitingOf s′)) (fr .comments))
+            ∙ ap (λ (y : List (List ℕ)). lay commentWidth 0 (y ++ owned 0 (waitingOf s′)) (fr .comments))
             (append-assoc (fr .owned) (commentRowsOf f m) (commentRowsOf g n)
             ∙ ap (λ (y : List (List ℕ)). fr .owned ++ y) (ap (λ (y : ℕ). commentRowsOf f m ++ commentRowsOf g y) (h .next) ∙ sym (notes-plus f g m)));
         credit = d .credit;
@@ -129,7 +129,7 @@ module _ (text : List ℕ) (short : length text ≤ 65536) where
       → Meant (λ d. At text (suc i) 0 noParent fr (f ⊕ single (definitionTree d))) (restIn text st t u) (parseDefinition s)
   unfolding restIn
   rest-m {st = st} {t = t} h =
-      let k = restAt (length t) (st .next) in
+      let k = restAt (st .next * nodeWidth) (length t) in
       in-rest k t (definition-m text short (rest-at h (drop k t))) λ a st′ t′ u′ s′ d. back-at h k refl d
 
   -- ---- the document
@@ -214,17 +214,17 @@ module _ (text : List ℕ) (short : length text ≤ 65536) where
   given-same : {a b : Outcome (List ℕ)} {n m c d : List ℕ} → a ≡ b → n ≡ m → c ≡ d → given a n c ≡ given b m d
   given-same e f g = rw (e, f, g)
 
-  room-same : (t r : List ℕ) → length r ≡ length t → room r ≡ room t
+  room-same : (w : ℕ) (t r : List ℕ) → length r ≡ length t → room w r ≡ room w t
   unfolding room
-  room-same t r e = rw e
+  room-same w t r e = rw e
 
   module _ {i : ℕ} {t′ u′ : List ℕ} {st : State} {s : St} (t u : List ℕ) (ds : List Definition) (h : At text i 0 noParent (lent t u) (forest ds) st t′ u′ s) where
     -- what the tables hold at the end
-    table-nodes : t′ ≡ lay 0 (nodeRows ds ++ []) t
+    table-nodes : t′ ≡ lay nodeWidth 0 (nodeRows ds ++ []) t
     unfolding nodeRows
-    table-nodes = h .nodes ∙ ap (λ (y : List (List ℕ)). lay 0 y t) (sym (append-nil (rowsOf (forest ds) noParent 0)))
+    table-nodes = h .nodes ∙ ap (λ (y : List (List ℕ)). lay nodeWidth 0 y t) (sym (append-nil (rowsOf (forest ds) noParent 0)))
 
-    table-notes : u′ ≡ lay 0 (notes ds ++ owned 0 (waitingOf s)) u
+    table-notes : u′ ≡ lay commentWidth 0 (notes ds ++ owned 0 (waitingOf s)) u
     unfolding notes
     table-notes = h .comments
 
@@ -235,36 +235,36 @@ module _ (text : List ℕ) (short : length text ≤ 65536) where
     count-notes = h .count ∙ omega (arith, notes-count ds)
 
     length-nodes : length t′ ≡ length t
-    length-nodes = ap length table-nodes ∙ length-lay 0 t (append-all (node-rows-wide ds) anil)
+    length-nodes = ap length table-nodes ∙ length-lay nodeWidth node-some 0 t (append-all (node-rows-wide ds) anil)
 
     length-notes : length u′ ≡ length u
-    length-notes = ap length table-notes ∙ length-lay 0 u (append-all (notes-wide ds) (owned-wide 0 (waitingOf s)))
+    length-notes = ap length table-notes ∙ length-lay commentWidth comment-some 0 u (append-all (notes-wide ds) (owned-wide 0 (waitingOf s)))
 
-    fits-by : (x y : Bool) → ltb (room t) (length (nodeRows ds)) ≡ x → ltb (room u) (length (notes ds)) ≡ y
+    fits-by : (x y : Bool) → ltb (room nodeWidth t) (length (nodeRows ds)) ≡ x → ltb (room commentWidth u) (length (notes ds)) ≡ y
         → fits st t′ u′ ≡ given (fitted ds t u) (left (fitted ds t u) (nodeRows ds) t) (left (fitted ds t u) (notes ds) u)
     unfolding fits fitted left refusing
     fits-by true y e d =
-        let z : ltb (room t′) (st .next) ≡ true = rw (room-same t t′ length-nodes, count-nodes) e in
+        let z : ltb (room nodeWidth t′) (st .next) ≡ true = rw (room-same nodeWidth t t′ length-nodes, count-nodes) e in
         rw (z, e) (given-same refl (cleared-same t t′ length-nodes) (cleared-same u u′ length-notes))
     fits-by false true e d =
-        let z : ltb (room t′) (st .next) ≡ false = rw (room-same t t′ length-nodes, count-nodes) e in
-        let w : ltb (room u′) (st .owned) ≡ true = rw (room-same u u′ length-notes, count-notes) d in
+        let z : ltb (room nodeWidth t′) (st .next) ≡ false = rw (room-same nodeWidth t t′ length-nodes, count-nodes) e in
+        let w : ltb (room commentWidth u′) (st .owned) ≡ true = rw (room-same commentWidth u u′ length-notes, count-notes) d in
         rw (z, e, w, d) (given-same refl (cleared-same t t′ length-nodes) (cleared-same u u′ length-notes))
     fits-by false false e d =
-        let z : ltb (room t′) (st .next) ≡ false = rw (room-same t t′ length-nodes, count-nodes) e in
-        let w : ltb (room u′) (st .owned) ≡ false = rw (room-same u u′ length-notes, count-notes) d in
+        let z : ltb (room nodeWidth t′) (st .next) ≡ false = rw (room-same nodeWidth t t′ length-nodes, count-nodes) e in
+        let w : ltb (room commentWidth u′) (st .owned) ≡ false = rw (room-same commentWidth u u′ length-notes, count-notes) d in
         rw (z, e, w, d)
         (given-same (rw (count-nodes, count-notes))
-        (ap (λ (n : ℕ). wiped (n * width) t′) count-nodes ∙ ap (wiped (length (nodeRows ds) * width)) table-nodes
-        ∙ wiped-lay t (node-rows-wide ds) anil (ltb-false (room t) (length (nodeRows ds)) e))
-        (ap (λ (n : ℕ). wiped (n * width) u′) count-notes ∙ ap (wiped (length (notes ds) * width)) table-notes
-        ∙ wiped-lay u (notes-wide ds) (owned-wide 0 (waitingOf s)) (ltb-false (room u) (length (notes ds)) d)))
+        (ap (λ (n : ℕ). wiped (n * nodeWidth) t′) count-nodes ∙ ap (wiped (length (nodeRows ds) * nodeWidth)) table-nodes
+        ∙ wiped-lay nodeWidth node-some t (node-rows-wide ds) anil (ltb-false (room nodeWidth t) (length (nodeRows ds)) e))
+        (ap (λ (n : ℕ). wiped (n * commentWidth) u′) count-notes ∙ ap (wiped (length (notes ds) * commentWidth)) table-notes
+        ∙ wiped-lay commentWidth comment-some u (notes-wide ds) (owned-wide 0 (waitingOf s)) (ltb-false (room commentWidth u) (length (notes ds)) d)))
 
   judged-means : {o : Out} {r : Res (List Definition)} {i : ℕ} (t u : List ℕ) → Meant (λ ds. At text i 0 noParent (lent t u) (forest ds)) o r
       → judged o (length text) t u ≡ given (answer (answered r text) t u) (left (answer (answered r text) t u) (rowsBy nodeRows (answered r text)) t)
       (left (answer (answered r text) t u) (rowsBy notes (answered r text)) u)
   unfolding judged answered answer rowsBy refusingAt refusing ended endRule left
-  judged-means t u (went {a = ds} h) = fits-by t u ds h (ltb (room t) (length (nodeRows ds))) (ltb (room u) (length (notes ds))) refl refl
+  judged-means t u (went {a = ds} h) = fits-by t u ds h (ltb (room nodeWidth t) (length (nodeRows ds))) (ltb (room commentWidth u) (length (notes ds))) refl refl
   judged-means t u halted = refl
 
   sound-means : {o : Out} {r : Res (List Definition)} {i : ℕ} (t u : List ℕ) → Meant (λ ds. At text i 0 noParent (lent t u) (forest ds)) o r

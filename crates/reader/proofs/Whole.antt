@@ -8,7 +8,7 @@
 use mathlib.Core.Path.{_≡_, refl, sym, ap, _∙_}
 use mathlib.Core.List.{List, [], _∷_, _++_, append-nil}
 use mathlib.Core.Option.{Option, some, none}
-use Prim.Native.Nat.{ℕ, zero, suc, _+_, _-_, _≤_}
+use Prim.Native.Nat.{ℕ, _*_, zero, suc, _+_, _-_, _≤_}
 use native.Mathlib.Omega.{arith}
 use lib.ListN.{length, take, drop, length-drop, length-take, drop-of-length-le}
 use borrow.Rule.Slice.PartMut.{putMid}
@@ -23,7 +23,7 @@ use Rattle.utf8.specs.Found.{found}
 use Rattle.utf8.specs.declared.Found.the-variants.{At, Nowhere}
 use Rattle.scan.proofs.Part.{part}
 use Rattle.utf8.proofs.FoundLaws.{found-at, found-none}
-use Rattle.ast.specs.Records.{cleared}
+use Rattle.ast.specs.Records.{nodeWidth, cleared}
 use Rattle.steps.specs.declared.state.State.{State}
 use Rattle.steps.specs.declared.state.Parsed.{Parsed}
 use Rattle.steps.specs.declared.state.Parsed.the-variants.{On, Refused}
@@ -47,7 +47,7 @@ unfolding shows inRest
 shown-rest (On st) i t t₁ t₂ u′ e = ap (λ (x : List ℕ). done st x u′) e
 shown-rest (Refused n l) i t t₁ t₂ u′ e = refl
 
-pub rest-is : (text : List ℕ) (st : State) (at : ℕ) (t t₁ u u′ : List ℕ) (a : Parsed) → at ≡ restAt (length t) (st .next) →
+pub rest-is : (text : List ℕ) (st : State) (at : ℕ) (t t₁ u u′ : List ℕ) (a : Parsed) → at ≡ restAt (st .next * nodeWidth) (length t) →
     shows a t₁ u′ ≡ definitionIn text st (take (length t - at) (drop at t)) u → shows a (putMid at (length t - at) t t₁) u′ ≡ restIn text st t u
 unfolding restIn
 rest-is text st at t t₁ u u′ a h e =

@@ -11,7 +11,7 @@ use Rattle.lexer.specs.Error.{UnrecognizedToken, UnexpectedEOF, NoToken, NodesF
 use Rattle.lexer.specs.Outcome as O
 use Rattle.lexer.specs.Location.{between, opening}
 use Rattle.lexer.specs.Cuts.{cuts, unrecognized}
-use Rattle.ast.specs.Records.{width, room, cleared}
+use Rattle.ast.specs.Records.{commentWidth, nodeWidth, room, cleared}
 use Rattle.parser.specs.Read.{Reading}
 use Rattle.steps.specs.declared.state.State.{State}
 use Rattle.steps.specs.Packed.{unpacked, packedLoc, unpackedLoc}
@@ -26,7 +26,7 @@ inRest i t (stop n l) = stop n l
 
 -- a definition, its records in the unused rest of the table
 unfoldable pub restIn : List ℕ → M
-restIn text st t u = let i = restAt (length t) (st .next) in inRest i t (definitionIn text st (drop i t) u)
+restIn text st t u = let i = restAt (st .next * nodeWidth) (length t) in inRest i t (definitionIn text st (drop i t) u)
 
 unfoldable pub overIn : M
 overIn st t u = cond (eqb (unpacked (st .last .end) .index) 1) (refused UnexpectedEOF st) (done st t u)
@@ -56,9 +56,9 @@ refusingAt e l len t u = refusing (ended e (l .end .index) len) (l .start .index
 -- what was read, if the tables hold it: else 24, then 25
 unfoldable pub fits : State → List ℕ → List ℕ → Reading
 fits st t u =
-    cond (ltb (room t) (st .next)) (refusing NodesFull 0 0 t u)
-    (cond (ltb (room u) (st .owned)) (refusing CommentsFull 0 0 t u)
-    (record { says = O.accepted (st .next ∷ st .owned ∷ []); nodes = wiped (st .next * width) t; comments = wiped (st .owned * width) u }))
+    cond (ltb (room nodeWidth t) (st .next)) (refusing NodesFull 0 0 t u)
+    (cond (ltb (room commentWidth u) (st .owned)) (refusing CommentsFull 0 0 t u)
+    (record { says = O.accepted (st .next ∷ st .owned ∷ []); nodes = wiped (st .next * nodeWidth) t; comments = wiped (st .owned * commentWidth) u }))
 
 unfoldable pub judged : Out → ℕ → List ℕ → List ℕ → Reading
 judged (done st t′ u′) len t u = fits st t′ u′

@@ -30,7 +30,7 @@ fn parse_in_rest(
     requires { ⌜ Lent (now lut) (now text) ⌝ }
     ensures { λ r. ⌜ Reads (restIn (now (text .entry))) st r (now (nodes .entry)) (now (nodes .exit)) (now (comments .entry)) (now (comments .exit)) ⌝ }
 {
-    let at = table::start_of(nodes.len(), st.next);
+    let at = table::rest_at(st.next as usize * ast::NODE_WIDTH, nodes.len());
     parse_definitions::parse_definition(lut, text, st, &mut nodes[at..], comments)
 }
 
@@ -149,14 +149,14 @@ fn fit(state: State, nodes: &mut [u32], comments: &mut [u32]) -> Answer
 {
     let next = state.next;
     let owned = state.owned;
-    if nodes.len() / ast::WIDTH < next as usize {
+    if nodes.len() / ast::NODE_WIDTH < next as usize {
         return refuse(error::NODES_FULL, 0, 0, nodes, comments);
     }
-    if comments.len() / ast::WIDTH < owned as usize {
+    if comments.len() / ast::COMMENT_WIDTH < owned as usize {
         return refuse(error::COMMENTS_FULL, 0, 0, nodes, comments);
     }
-    table::clear(nodes, next as usize * ast::WIDTH);
-    table::clear(comments, owned as usize * ast::WIDTH);
+    table::clear(nodes, next as usize * ast::NODE_WIDTH);
+    table::clear(comments, owned as usize * ast::COMMENT_WIDTH);
     Answer::Accepted {
         nodes: next,
         comments: owned,

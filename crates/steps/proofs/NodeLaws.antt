@@ -17,8 +17,8 @@ use Rattle.lexer.specs.declared.location.LOC.{LOC}
 use Rattle.lexer.specs.Tokens.{Lexeme, lexeme}
 use Rattle.ast.specs.Largest.{bump}
 use Rattle.ast.specs.Tree.{Tree, node, Forest, bare, grown, leaf, single}
-use Rattle.ast.specs.Records.{row, sizes, rowsOf, owned, commentRowsOf}
-use Rattle.ast.proofs.Counts.{row-width, forest-wide, comments-wide, owned-wide, owned-count, append-all, noteCounts, note-counts, rows-sizes}
+use Rattle.ast.specs.Records.{commentWidth, nodeWidth, nodeRow, size, sizes, rowsOf, owned, commentRowsOf}
+use Rattle.ast.proofs.Counts.{node-row-width, forest-wide, comments-wide, owned-wide, owned-count, append-all, noteCounts, note-counts, rows-sizes}
 use Rattle.steps.specs.declared.packed.Range.{Range}
 use Rattle.steps.specs.declared.state.State.{State}
 use Rattle.parser.specs.Steps.{kind, place, span, St, pos, Res, ok, no, P, bind, test, next, when, peek, closed, loop, many}
@@ -38,13 +38,13 @@ use Rattle.steps.specs.Into.{
   advanced,
   takeIn,
   bytesLeft,
-  parents,
+  owners,
   owns,
   loopIn,
   closesAt,
 }
 use Rattle.parser.proofs.KindLaws.{one-test}
-use Rattle.steps.proofs.TableLaws.{lay, lay-append, put-lay, parents-lay}
+use Rattle.steps.proofs.TableLaws.{lay, lay-append, put-lay, owners-lay, node-some, comment-some}
 use Rattle.steps.proofs.ForestLaws.{_⊕_, plus-bare, plus-assoc, sizes-plus, counts-plus, rows-plus, notes-plus}
 use Rattle.steps.proofs.Seen.{small-bump, small-sum, lastOf, waitingOf, Frame, At, less, regrown, few-left, Meant, went, halted, within-m, bind-m, last-m}
 use Rattle.steps.proofs.StepLaws.{some-ahead, tested, step-at, Wanted, emptied}
@@ -86,7 +86,7 @@ open-at {fr = fr} {f = f} {st = st} h =
 -- the comments that wait are the node's
 pub own-at : {text : List ℕ} {i b p : ℕ} {fr : Frame} {f : Forest} {st : State} {t u : List ℕ} (s : St)
     → At text (suc i) b p fr f st t u s
-    → At text i b (st .next) (inside fr f (st .next) t (waitingOf s)) bare (owns (opened st)) t (parents (st .owned) (st .waiting) (st .next) u) (emptied s)
+    → At text i b (st .next) (inside fr f (st .next) t (waitingOf s)) bare (owns (opened st)) t (owners (st .owned) (st .waiting) (st .next) u) (emptied s)
 unfolding opened owns lay rowsOf commentRowsOf sizes noteCounts owned
 own-at {fr = fr} {f = f} {st = st} {u = u} (pos l c ts) h =
     let m : bump (st .next) ≡ suc (st .next) = small-bump (st .next) (omega (arith, h .credit)) in
@@ -94,8 +94,8 @@ own-at {fr = fr} {f = f} {st = st} {u = u} (pos l c ts) h =
     let xs = rowsAt fr f in
     let n = st .next in
     let z : st .owned ≡ length xs = omega (arith, h .count, rows-at fr f) in
-    let y : (q : ℕ) → lay 0 (xs ++ owned q c) (fr .comments) ≡ lay (length xs) (owned q c) (lay 0 xs (fr .comments)) =
-    λ q. lay-append 0 xs (owned q c) (fr .comments) ∙ ap (λ (k : ℕ). lay k (owned q c) (lay 0 xs (fr .comments))) (zero-add (length xs)) in
+    let y : (q : ℕ) → lay commentWidth 0 (xs ++ owned q c) (fr .comments) ≡ lay commentWidth (length xs) (owned q c) (lay commentWidth 0 xs (fr .comments)) =
+    λ q. lay-append commentWidth comment-some 0 xs (owned q c) (fr .comments) ∙ ap (λ (k : ℕ). lay commentWidth k (owned q c) (lay commentWidth 0 xs (fr .comments))) (zero-add (length xs)) in
     record {
       last = h .last;
       ahead = h .ahead;
@@ -105,10 +105,10 @@ own-at {fr = fr} {f = f} {st = st} {u = u} (pos l c ts) h =
       waits = refl;
       comments =
           rw (append-nil ((xs ++ owned n c) ++ []), append-nil (xs ++ owned n c))
-          (ap (λ (v : List ℕ). parents (st .owned) (st .waiting) n v) (h .comments ∙ y 0)
-          ∙ ap (λ (k : ℕ). parents k (st .waiting) n (lay (length xs) (owned 0 c) (lay 0 xs (fr .comments)))) z
-          ∙ ap (λ (k : ℕ). parents (length xs) k n (lay (length xs) (owned 0 c) (lay 0 xs (fr .comments)))) (h .waits)
-          ∙ parents-lay (length xs) n c (lay 0 xs (fr .comments)) ∙ sym (y n));
+          (ap (λ (v : List ℕ). owners (st .owned) (st .waiting) n v) (h .comments ∙ y 0)
+          ∙ ap (λ (k : ℕ). owners k (st .waiting) n (lay commentWidth (length xs) (owned 0 c) (lay commentWidth 0 xs (fr .comments)))) z
+          ∙ ap (λ (k : ℕ). owners (length xs) k n (lay commentWidth (length xs) (owned 0 c) (lay commentWidth 0 xs (fr .comments)))) (h .waits)
+          ∙ owners-lay (length xs) n c (lay commentWidth 0 xs (fr .comments)) ∙ sym (y n));
       credit = omega (arith, h .credit, m);
       space = omega (arith, h .space, a, h .waits);
       based = omega (arith, h .based, h .next);
@@ -126,8 +126,8 @@ module _ (k fl : ℕ) (l : LOC) (w : List ℕ) (c : List Lexeme) (g : Forest) wh
   unfolding single noteCounts
   one-count f = counts-plus f (grown (node k fl l w c g) bare) ∙ omega arith
 
-  one-rows : (f : Forest) (p m n : ℕ) → n ≡ m + sizes f → rowsOf (f ⊕ single (node k fl l w c g)) p m ≡ rowsOf f p m ++ (row k p fl l ∷ rowsOf g n (suc n))
-  unfolding single rowsOf
+  one-rows : (f : Forest) (p m n : ℕ) → n ≡ m + sizes f → rowsOf (f ⊕ single (node k fl l w c g)) p m ≡ rowsOf f p m ++ (nodeRow k p fl l (n + suc (sizes g)) ∷ rowsOf g n (suc n))
+  unfolding single rowsOf size
   one-rows f p m n e = rw e (rows-plus f (grown (node k fl l w c g) bare) p m ∙ ap (λ (x : List (List ℕ)). rowsOf f p m ++ x) (append-nil _))
 
   one-notes : (f : Forest) (m n : ℕ) → n ≡ m + sizes f
@@ -146,7 +146,8 @@ unfolding putNode placeOf span
 finish-at {b = b} {p = p} {fr = fr} {f = f} {g = g} {st = st} {st′ = st′} {t = t} {t′ = t′} {s′ = s′} k fl a x w c h d e =
     let n = st .next in
     let l = span a (lastOf s′) in
-    let r = row k p fl l in
+    let past : st′ .next ≡ n + suc (sizes g) = d .next ∙ omega arith in
+    let r = nodeRow k p fl l (n + suc (sizes g)) in
     let q : fr .number - b + length (rowsOf f p (fr .number)) ≡ n - b = omega (arith, h .next, h .based, rows-sizes f p (fr .number)) in
     let v : suc n - b ≡ suc (n - b) = omega (arith, h .next, h .based) in
     let z : (rowsAt fr f ++ owned n c) ++ commentRowsOf g (suc n) ≡ fr .owned ++ commentRowsOf (f ⊕ single (node k fl l w c g)) (fr .number) =
@@ -157,16 +158,16 @@ finish-at {b = b} {p = p} {fr = fr} {f = f} {g = g} {st = st} {st′ = st′} {t
       ahead = d .ahead;
       next = d .next ∙ omega (arith, h .next, one-size k fl l w c g f);
       nodes =
-          rw (e, ap (λ (y : LOC). y .end) (d .last))
-          (ap (put (n - b) r) (d .nodes ∙ ap (λ (y : ℕ). lay y (rowsOf g n (suc n)) t) v)
-          ∙ put-lay (n - b) r t (row-width k p fl l) (forest-wide g n (suc n))
-          ∙ ap (lay (n - b) (r ∷ rowsOf g n (suc n))) (h .nodes)
-          ∙ ap (λ (y : ℕ). lay y (r ∷ rowsOf g n (suc n)) (lay (fr .number - b) (rowsOf f p (fr .number)) (fr .nodes))) (sym q)
-          ∙ sym (lay-append (fr .number - b) (rowsOf f p (fr .number)) (r ∷ rowsOf g n (suc n)) (fr .nodes))
-          ∙ ap (λ (y : List (List ℕ)). lay (fr .number - b) y (fr .nodes)) (sym (one-rows k fl l w c g f p (fr .number) n (h .next))));
+          rw (e, ap (λ (y : LOC). y .end) (d .last), past)
+          (ap (put nodeWidth (n - b) r) (d .nodes ∙ ap (λ (y : ℕ). lay nodeWidth y (rowsOf g n (suc n)) t) v)
+          ∙ put-lay nodeWidth node-some (n - b) r t (node-row-width k p fl l _) (forest-wide g n (suc n))
+          ∙ ap (lay nodeWidth (n - b) (r ∷ rowsOf g n (suc n))) (h .nodes)
+          ∙ ap (λ (y : ℕ). lay nodeWidth y (r ∷ rowsOf g n (suc n)) (lay nodeWidth (fr .number - b) (rowsOf f p (fr .number)) (fr .nodes))) (sym q)
+          ∙ sym (lay-append nodeWidth node-some (fr .number - b) (rowsOf f p (fr .number)) (r ∷ rowsOf g n (suc n)) (fr .nodes))
+          ∙ ap (λ (y : List (List ℕ)). lay nodeWidth (fr .number - b) y (fr .nodes)) (sym (one-rows k fl l w c g f p (fr .number) n (h .next))));
       count = d .count ∙ omega (arith, one-count k fl l w c g f, rows-at fr f, length-append (rowsAt fr f) (owned n c), owned-count n c);
       waits = d .waits;
-      comments = d .comments ∙ ap (λ (y : List (List ℕ)). lay 0 (y ++ owned 0 (waitingOf s′)) (fr .comments)) z;
+      comments = d .comments ∙ ap (λ (y : List (List ℕ)). lay commentWidth 0 (y ++ owned 0 (waitingOf s′)) (fr .comments)) z;
       credit = d .credit;
       space = d .space;
       based = h .based;
@@ -177,7 +178,7 @@ finish-at {b = b} {p = p} {fr = fr} {f = f} {g = g} {st = st} {st′ = st′} {t
 
 pub leaf-at : {text : List ℕ} {i b p : ℕ} {fr : Frame} {f : Forest} {st : State} {t u : List ℕ} {s : St} (k : ℕ) (tok : Lexeme)
     → At text (suc i) b p fr f st t u s → lastOf s ≡ place tok
-    → At text i b p fr (f ⊕ single (leaf k tok)) (opened st) (put (placeOf b (st .next)) (row k p 0 (unpackedLoc (st .last))) t) u s
+    → At text i b p fr (f ⊕ single (leaf k tok)) (opened st) (put nodeWidth (placeOf b (st .next)) (nodeRow k p 0 (unpackedLoc (st .last)) (opened st .next)) t) u s
 unfolding leaf place opened putNode span
 leaf-at {f = f} {st = st} {s = s} k (lexeme q w l) h e =
     rw e at (finish-at k 0 (lastOf s) (st .last .start) w [] h (open-at h) (ap (λ (x : LOC). x .start) (h .last)))

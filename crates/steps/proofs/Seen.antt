@@ -30,7 +30,7 @@ use Rattle.lexer.specs.Tokens.{Lexeme, tokens, lexemeOf}
 use Rattle.lexer.proofs.NextLaws.{Stuck, next-placed, next-inside, next-ends, unrecognized-on, tokens-on, tokens-end, tokens-unrecognized}
 use Rattle.ast.specs.Lists.{All}
 use Rattle.ast.specs.Tree.{Forest}
-use Rattle.ast.specs.Records.{sizes, rowsOf, owned, commentRowsOf}
+use Rattle.ast.specs.Records.{commentWidth, nodeWidth, sizes, rowsOf, owned, commentRowsOf}
 use Rattle.ast.proofs.Counts.{Wide, noteCounts}
 use Rattle.steps.specs.declared.packed.Range.{Range}
 use Rattle.steps.specs.declared.state.State.{State}
@@ -161,14 +161,14 @@ pub record At (text : List ℕ) (i b p : ℕ) (frame : Frame) (f : Forest) (st :
   pub last : unpackedLoc (st .last) ≡ lastOf s
   pub ahead : AheadOf text st (leftOf s)
   pub next : st .next ≡ frame .number + sizes f
-  pub nodes : t ≡ lay (frame .number - b) (rowsOf f p (frame .number)) (frame .nodes)
+  pub nodes : t ≡ lay nodeWidth (frame .number - b) (rowsOf f p (frame .number)) (frame .nodes)
   pub count : st .owned ≡ length (frame .owned) + noteCounts f
   pub waits : st .waiting ≡ length (waitingOf s)
-  pub comments : u ≡ lay 0 ((frame .owned ++ commentRowsOf f (frame .number)) ++ owned 0 (waitingOf s)) (frame .comments)
+  pub comments : u ≡ lay commentWidth 0 ((frame .owned ++ commentRowsOf f (frame .number)) ++ owned 0 (waitingOf s)) (frame .comments)
   pub credit : st .next + 2 * length (leftOf s) + i ≤ 131080
   pub space : st .owned + (length (waitingOf s) + length (leftOf s)) ≤ 65536
   pub based : b ≤ frame .number
-  pub wide : All Wide (frame .owned)
+  pub wide : All (Wide commentWidth) (frame .owned)
 
 -- with less to spare
 pub fewer : {text : List ℕ} {i j b p : ℕ} {fr : Frame} {f : Forest} {st : State} {t u : List ℕ} {s : St} → j ≤ i → At text i b p fr f st t u s

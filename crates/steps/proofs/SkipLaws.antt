@@ -16,7 +16,7 @@ use Rattle.token.specs.declared.Token.{Token}
 use Rattle.lexer.specs.declared.location.LOC.{LOC}
 use Rattle.lexer.specs.Tokens.{Lexeme, lexeme}
 use Rattle.ast.specs.Tree.{Forest}
-use Rattle.ast.specs.Records.{row, owned, commentRow, commentRowsOf}
+use Rattle.ast.specs.Records.{commentWidth, row, owned, commentRow, commentRowsOf}
 use Rattle.ast.proofs.Counts.{note-counts, owned-count}
 use Rattle.steps.specs.declared.state.State.{State}
 use Rattle.parser.specs.Steps as S
@@ -55,7 +55,7 @@ use Rattle.steps.specs.Into.{
 use Rattle.parser.proofs.Wf.{commentKinds}
 use Rattle.parser.proofs.KindLaws.{all, same, agree, Tests, apart}
 use Rattle.steps.proofs.Bytes.{passed-is, comments-is}
-use Rattle.steps.proofs.TableLaws.{lay, lay-append}
+use Rattle.steps.proofs.TableLaws.{lay, lay-append, comment-some}
 use Rattle.steps.proofs.Seen.{small-bump, First, over as ended, on, AheadOf, advance-ahead, moved, Frame, At, less, Meant, went}
 use Rattle.steps.proofs.StepLaws.{first-ahead, step-at}
 
@@ -121,11 +121,11 @@ module _ (text : List ℕ) (short : length text ≤ 65536) (i b p : ℕ) (fr : F
 
   -- ---- comments that wait
 
-  more-rows : (xs ys : List (List ℕ)) (r v : List ℕ) (n : ℕ) → length xs + length ys ≡ n → put n r (lay 0 (xs ++ ys) v) ≡ lay 0 (xs ++ (ys ++ r ∷ [])) v
+  more-rows : (xs ys : List (List ℕ)) (r v : List ℕ) (n : ℕ) → length xs + length ys ≡ n → put commentWidth n r (lay commentWidth 0 (xs ++ ys) v) ≡ lay commentWidth 0 (xs ++ (ys ++ r ∷ [])) v
   unfolding lay
   more-rows xs ys r v n e =
       let g : 0 + length (xs ++ ys) ≡ n = omega (arith, length-append xs ys) in
-      sym (rw (← (append-assoc xs ys (r ∷ [])), lay-append 0 (xs ++ ys) (r ∷ []) v, g))
+      sym (rw (← (append-assoc xs ys (r ∷ [])), lay-append commentWidth comment-some 0 (xs ++ ys) (r ∷ []) v, g))
 
   owned-more : (n : ℕ) (c : List Lexeme) (tok : Lexeme) → owned n (c ++ tok ∷ []) ≡ owned n c ++ commentRow n tok ∷ []
   unfolding owned
@@ -153,10 +153,10 @@ module _ (text : List ℕ) (short : length text ≤ 65536) (i b p : ℕ) (fr : F
         count = m .owned ∙ h .count;
         waits = m .waiting ∙ small-bump (st .waiting) (omega (arith, h .space, h .waits)) ∙ omega (arith, h .waits, length-append c (tok ∷ []));
         comments =
-            ap (λ (r : List ℕ). put n r u) (waiting-row st tok a) ∙ ap (put n (commentRow 0 tok)) (h .comments)
+            ap (λ (r : List ℕ). put commentWidth n r u) (waiting-row st tok a) ∙ ap (put commentWidth n (commentRow 0 tok)) (h .comments)
             ∙ more-rows xs (owned 0 c) (commentRow 0 tok) (fr .comments) n
             (omega (arith, length-append (fr .owned) (commentRowsOf f (fr .number)), note-counts f (fr .number), owned-count 0 c, h .count, h .waits))
-            ∙ ap (λ (y : List (List ℕ)). lay 0 (xs ++ y) (fr .comments)) (sym (owned-more 0 c tok));
+            ∙ ap (λ (y : List (List ℕ)). lay commentWidth 0 (xs ++ y) (fr .comments)) (sym (owned-more 0 c tok));
         credit = omega (arith, h .credit, m .next);
         space = omega (arith, h .space, m .owned, length-append c (tok ∷ []));
         based = h .based;

@@ -5,7 +5,7 @@ use mathlib.Core.List.{List}
 use Prim.Native.Nat.{ℕ, suc, _+_, _-_, _≤_, _<_}
 use native.Mathlib.Omega.{arith}
 use Rattle.steps.specs.declared.state.State.{State}
-use Rattle.steps.specs.Into.{done, advanced, bytesLeft, passes, passed, isComment, isSeparator, waits, putWaiting, waitIn, skipCommentsIn, putParent, parents}
+use Rattle.steps.specs.Into.{done, advanced, bytesLeft, passes, passed, isComment, isSeparator, waits, putWaiting, waitIn, skipCommentsIn, putOwner, owners}
 use Rattle.steps.proofs.Bytes.{passed-is, comments-is, comment-some, wait-falls}
 
 -- ---- skip
@@ -48,21 +48,21 @@ wait-less text st r t u v e f = let a : r ≡ waits st = cc in rw a (wait-falls 
 
 -- ---- own
 
-pub own-start : (f n p : ℕ) (u : List ℕ) → parents f n p u ≡ parents (f + 0) (n - 0) p u
+pub own-start : (f n p : ℕ) (u : List ℕ) → owners f n p u ≡ owners (f + 0) (n - 0) p u
 own-start f n p u =
     let a : f + 0 ≡ f = omega arith in
     let b : n - 0 ≡ n = omega arith in
     rw (a, b)
 
 module _ (f n p i : ℕ) (u : List ℕ) where
-  pub own-step : (u₀ v : List ℕ) → i < n → parents f n p u₀ ≡ parents (f + i) (n - i) p u → v ≡ putParent (f + i) p u
-      → parents f n p u₀ ≡ parents (f + (i + 1)) (n - (i + 1)) p v
-  unfolding parents
+  pub own-step : (u₀ v : List ℕ) → i < n → owners f n p u₀ ≡ owners (f + i) (n - i) p u → v ≡ putOwner (f + i) p u
+      → owners f n p u₀ ≡ owners (f + (i + 1)) (n - (i + 1)) p v
+  unfolding owners
   own-step u₀ v h e g =
       let a : f + (i + 1) ≡ f + i + 1 = omega arith in
       let b : n - i ≡ suc (n - (i + 1)) = omega arith in
-      rw (a, g) (e ∙ ap (λ (k : ℕ). parents (f + i) k p u) b)
+      rw (a, g) (e ∙ ap (λ (k : ℕ). owners (f + i) k p u) b)
 
-  pub own-done : n ≤ i → parents (f + i) (n - i) p u ≡ u
-  unfolding parents
+  pub own-done : n ≤ i → owners (f + i) (n - i) p u ≡ u
+  unfolding owners
   own-done h = let e : n - i ≡ 0 = omega arith in rw e

@@ -20,7 +20,7 @@ use Rattle.lexer.specs.declared.location.Next.{Next}
 use Rattle.lexer.specs.declared.location.Next.the-variants as N
 use Rattle.lexer.specs.Tokens as L
 use Rattle.ast.specs.Largest.{largest, bump}
-use Rattle.ast.specs.Records.{width, row, room}
+use Rattle.ast.specs.Records.{commentWidth, nodeWidth, row, nodeRow, room}
 use Rattle.parser.specs.Definitions.{isId}
 use Rattle.steps.specs.declared.packed.Range.{Range}
 use Rattle.steps.specs.declared.Found.{Found}
@@ -82,16 +82,21 @@ Puts m st r t t′ = (u : List ℕ) → done r t′ u ≡ m st t u
 unfoldable pub sum : ℕ → ℕ → ℕ
 sum a b = cond (leb a (largest - b)) (a + b) largest
 
--- record i of a table, if it holds that one
-unfoldable pub put : ℕ → List ℕ → List ℕ → List ℕ
-put i r t = cond (leb (room t) i) t (take (i * width) t ++ (r ++ drop (i * width + width) t))
+-- numbers of a table from an index on
+unfoldable pub putRow : ℕ → List ℕ → List ℕ → List ℕ
+putRow at r t = take at t ++ (r ++ drop (at + length r) t)
 
-unfoldable pub putParent : ℕ → ℕ → List ℕ → List ℕ
-putParent i p t = cond (leb (room t) i) t (set t (i * width + C.Parent) p)
+-- record i of a table of records of w numbers, if it holds that one
+unfoldable pub put : ℕ → ℕ → List ℕ → List ℕ → List ℕ
+put w i r t = cond (leb (room w t) i) t (take (i * w) t ++ (r ++ drop (i * w + w) t))
 
--- where record n starts in a table of so many numbers, and its rest from there on
+-- the owner of comment record i
+unfoldable pub putOwner : ℕ → ℕ → List ℕ → List ℕ
+putOwner i p t = cond (leb (room commentWidth t) i) t (set t (i * commentWidth + C.Parent) p)
+
+-- where the rest of a table of so many numbers starts: at an index, or at its end
 unfoldable pub restAt : ℕ → ℕ → ℕ
-restAt len n = cond (ltb (n * width) len) (n * width) len
+restAt at len = cond (ltb at len) at len
 
 -- 0 from an index on
 unfoldable pub wiped : ℕ → List ℕ → List ℕ
@@ -106,11 +111,11 @@ opened st = record { kind = st .kind; loc = st .loc; last = st .last; next = bum
 
 -- the last token taken, as a node
 unfoldable pub leafIn : ℕ → ℕ → ℕ → M
-leafIn k b p st t u = done (opened st) (put (placeOf b (st .next)) (row k p 0 (unpackedLoc (st .last))) t) u
+leafIn k b p st t u = done (opened st) (put nodeWidth (placeOf b (st .next)) (nodeRow k p 0 (unpackedLoc (st .last)) (opened st .next)) t) u
 
--- a node from a place to the end of the last token taken
+-- a node from a place to the end of the last token taken; the next record stands just past its last descendant
 unfoldable pub putNode : ℕ → ℕ → ℕ → ℕ → ℕ → ℕ → State → List ℕ → List ℕ
-putNode n k f s b p st t = put (placeOf b n) (row k p f (unpackedLoc (record { start = s; end = st .last .end }))) t
+putNode n k f s b p st t = put nodeWidth (placeOf b n) (nodeRow k p f (unpackedLoc (record { start = s; end = st .last .end })) (st .next)) t
 
 unfoldable pub nodeIn : ℕ → ℕ → ℕ → ℕ → ℕ → ℕ → M
 nodeIn n k f s b p st t u = done st (putNode n k f s b p st t) u
@@ -193,7 +198,7 @@ unfoldable pub waits : State → State
 waits st = record { kind = st .kind; loc = st .loc; last = st .last; next = st .next; owned = st .owned; waiting = bump (st .waiting) }
 
 unfoldable pub putWaiting : State → List ℕ → List ℕ
-putWaiting st u = put (st .owned + st .waiting) (row (cond (eqb (st .kind) T.LineComment) K.LineComment K.BlockComment) 0 0 (unpackedLoc (st .loc))) u
+putWaiting st u = put commentWidth (st .owned + st .waiting) (row (cond (eqb (st .kind) T.LineComment) K.LineComment K.BlockComment) 0 0 (unpackedLoc (st .loc))) u
 
 unfoldable pub waitIn : M
 waitIn st t u = done (waits st) t (putWaiting st u)
@@ -208,15 +213,15 @@ unfoldable pub skipCommentsIn : List ℕ → Bool → M
 skipCommentsIn text s st = skipCommentsFrom text s (suc (bytesLeft text st)) st
 
 -- the comments that wait go to a node
-unfoldable pub parents : ℕ → ℕ → ℕ → List ℕ → List ℕ
-parents i zero p u = u
-parents i (suc n) p u = parents (i + 1) n p (putParent i p u)
+unfoldable pub owners : ℕ → ℕ → ℕ → List ℕ → List ℕ
+owners i zero p u = u
+owners i (suc n) p u = owners (i + 1) n p (putOwner i p u)
 
 unfoldable pub owns : State → State
 owns st = record { kind = st .kind; loc = st .loc; last = st .last; next = st .next; owned = sum (st .owned) (st .waiting); waiting = 0 }
 
 unfoldable pub ownIn : ℕ → M
-ownIn p st t u = done (owns st) t (parents (st .owned) (st .waiting) p u)
+ownIn p st t u = done (owns st) t (owners (st .owned) (st .waiting) p u)
 
 -- members until a state that closes
 unfoldable pub turnsIn : (State → Bool) → M → M → M → ℕ → M

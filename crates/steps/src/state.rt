@@ -212,12 +212,10 @@ impl State {
         }
         let loc = self.loc;
         let last = self.last;
-        table::put_record(
+        table::put_comment(
             comments,
             self.owned as usize + self.waiting as usize,
             kind,
-            0,
-            0,
             loc,
         );
         State {
@@ -238,7 +236,7 @@ impl State {
         let count = self.waiting as usize;
         let mut i = 0;
         while i < count {
-            table::put_parent(comments, first + i, owner);
+            table::put_owner(comments, first + i, owner);
             i += 1;
         }
         let loc = self.loc;
@@ -274,11 +272,20 @@ impl State {
         ensures { λ r. ⌜ Puts (leafIn kind (parent .base) (parent .node)) self r (now (rest .entry)) (now (rest .exit)) ⌝ }
     {
         let loc = self.last;
-        table::put_record(rest, parent.place_of(self.next), kind, parent.node, 0, loc);
-        self.open()
+        let opened = self.open();
+        table::put_node(
+            rest,
+            parent.place_of(self.next),
+            kind,
+            parent.node,
+            0,
+            loc,
+            opened.next,
+        );
+        opened
     }
 
-    // A node from `start` to the end of the last token taken.
+    // A node from `start` to the end of the last token taken; all its descendants are read.
     pub fn put_node(
         self,
         rest: &mut [u32],
@@ -292,13 +299,14 @@ impl State {
     {
         let last = self.last;
         let end = last.end;
-        table::put_record(
+        table::put_node(
             rest,
             parent.place_of(number),
             kind,
             parent.node,
             flags,
             Range { start, end },
+            self.next,
         );
     }
 }

@@ -1,9 +1,9 @@
 // Records in a lent table.
 ghost use mathlib.Core.Path.{_≡_};
-ghost use Prim.Native.Nat.{_≤_};
+ghost use Prim.Native.Nat.{_+_, _≤_};
 ghost use lib.ListN.{length};
-ghost use Rattle.ast.specs.Records.{row};
-ghost use Rattle.steps.specs.Into.{sum, put, putParent, restAt, wiped};
+ghost use Rattle.ast.specs.Records.{commentWidth, nodeWidth, row, nodeRow};
+ghost use Rattle.steps.specs.Into.{sum, putRow, put, putOwner, restAt, wiped};
 ghost use Rattle.steps.specs.Packed.{unpackedLoc};
 use crate::packed;
 use crate::packed::Range;
@@ -20,14 +20,11 @@ pub fn sum(a: u32, b: u32) -> u32
     }
 }
 
-// Record `index` of the table, if it holds that one.
-pub fn put_record(table: &mut [u32], index: usize, kind: u32, parent: u32, flags: u32, loc: Range)
-    ensures { λ _. ⌜ now (table .exit) ≡ put index (row kind parent flags (unpackedLoc loc)) (now (table .entry)) ⌝ }
+// The nine numbers that every record has, from an index on.
+fn put_row(table: &mut [u32], at: usize, kind: u32, parent: u32, flags: u32, loc: Range)
+    requires { ⌜ at + commentWidth ≤ length (now table) ⌝ }
+    ensures { λ _. ⌜ now (table .exit) ≡ putRow at (row kind parent flags (unpackedLoc loc)) (now (table .entry)) ⌝ }
 {
-    if table.len() / ast::WIDTH <= index {
-        return;
-    }
-    let at = index * ast::WIDTH;
     table[at] = kind;
     table[at + 1] = parent;
     table[at + 2] = flags;
@@ -39,21 +36,50 @@ pub fn put_record(table: &mut [u32], index: usize, kind: u32, parent: u32, flags
     table[at + 8] = packed::column_of(loc.end);
 }
 
-// The parent of record `index`.
-pub fn put_parent(table: &mut [u32], index: usize, parent: u32)
-    ensures { λ _. ⌜ now (table .exit) ≡ putParent index parent (now (table .entry)) ⌝ }
+// Comment record `index`, without its owner, if the table holds that one.
+pub fn put_comment(comments: &mut [u32], index: usize, kind: u32, loc: Range)
+    ensures { λ _. ⌜ now (comments .exit) ≡ put commentWidth index (row kind 0 0 (unpackedLoc loc)) (now (comments .entry)) ⌝ }
 {
-    if table.len() / ast::WIDTH <= index {
+    if comments.len() / ast::COMMENT_WIDTH <= index {
         return;
     }
-    table[index * ast::WIDTH + column::PARENT] = parent;
+    put_row(comments, index * ast::COMMENT_WIDTH, kind, 0, 0, loc);
 }
 
-// Where record `number` starts in a table of so many numbers; the end where it does not stand in it.
-pub fn start_of(len: usize, number: u32) -> usize
-    ensures { λ r. ⌜ (r ≡ restAt len number) × (r ≤ len) ⌝ }
+// Node record `index`, if the table holds that one; `past` is the number just past its last descendant.
+pub fn put_node(
+    nodes: &mut [u32],
+    index: usize,
+    kind: u32,
+    parent: u32,
+    flags: u32,
+    loc: Range,
+    past: u32,
+)
+    ensures { λ _. ⌜ now (nodes .exit) ≡ put nodeWidth index (nodeRow kind parent flags (unpackedLoc loc) past) (now (nodes .entry)) ⌝ }
 {
-    let at = number as usize * ast::WIDTH;
+    if nodes.len() / ast::NODE_WIDTH <= index {
+        return;
+    }
+    let at = index * ast::NODE_WIDTH;
+    put_row(nodes, at, kind, parent, flags, loc);
+    nodes[at + column::PAST] = past;
+}
+
+// The owner of comment record `index`.
+pub fn put_owner(comments: &mut [u32], index: usize, owner: u32)
+    ensures { λ _. ⌜ now (comments .exit) ≡ putOwner index owner (now (comments .entry)) ⌝ }
+{
+    if comments.len() / ast::COMMENT_WIDTH <= index {
+        return;
+    }
+    comments[index * ast::COMMENT_WIDTH + column::PARENT] = owner;
+}
+
+// Where the rest of a table of so many numbers starts: at an index, or at the table's end.
+pub fn rest_at(at: usize, len: usize) -> usize
+    ensures { λ r. ⌜ (r ≡ restAt at len) × (r ≤ len) ⌝ }
+{
     if at < len { at } else { len }
 }
 

@@ -61,7 +61,7 @@ use Rattle.ast.specs.Tree.{
   structureKind,
   definitionTree,
 }
-use Rattle.ast.specs.Records.{noParent, row, size, sizes}
+use Rattle.ast.specs.Records.{noParent, nodeRow, size, sizes}
 use Rattle.parser.proofs.Lexemes.{
   EachOption,
   esome,
@@ -122,7 +122,7 @@ next-not i h n = weaker (λ k q f e. ne-eqb k i (λ z. omega (arith, z, e .0, h)
 next-after : (m : ℕ) {R : Rows} → Next R → After m R
 unfolding noParent
 next-after m none-left = none-left
-next-after m (first k q f l e) = rw (e .1) (after-definition m k f l)
+next-after m (first k q f l _ e) = rw (e .1) (after-definition m k f l _)
 
 -- a step, then two behind it
 on-on : {G H : Cursor → List ℕ → Type 0} (k m : W) {i : Reached} → Got G i → ((p : Cursor) (o : List ℕ) → G p o → Got H (then (k p o) m)) → Got H (then (then i k) m)
@@ -135,7 +135,7 @@ OfKind i = Begins (λ k q f. k ≡ i)
 
 module _ (j : Job) where
   kind-of : {r : List Piece} {n : ℕ} {R C : Rows} {p : Cursor} {o : List ℕ} (i : ℕ) → OfKind i R → At j r n R C p o → eqb (kindAt (j .nodes) (j .count) (p .node)) i ≡ true
-  kind-of i (begins k q f l e) a = rw (kind-is j k q f l a) (eq-eqb k i e)
+  kind-of i (begins k q f l _ e) a = rw (kind-is j k q f l _ a) (eq-eqb k i e)
 
   -- what follows a body
   abbrev closeOut : ℕ → W
@@ -144,7 +144,7 @@ module _ (j : Job) where
   -- ---- members
 
   module _ {A : Type 0} (ind i : ℕ) (f : A → Tree) (write : A → List Piece → List Piece) (G : A → Type 0) (N : Rows → Type 0)
-      (some-kind : 0 < i) (not-annotations : (l : LOC) (q : ℕ) (R : Rows) → Not i (row 14 q 0 l ∷ R))
+      (some-kind : 0 < i) (not-annotations : (l : LOC) (q e : ℕ) (R : Rows) → Not i (nodeRow 14 q 0 l e ∷ R))
       (step : (x : A) (q n : ℕ) (r : List Piece) (R C : Rows) (p : Cursor) (o : List ℕ) → G x → After n R → N R → Late (n + size (f x)) C →
       At j (write x r) n (under (f x) q n R) (noted (f x) n C) p o →
       Got (At j r (n + size (f x)) R C) (oneOut (j .text) (j .nodes) (j .count) (j .comments) (j .total) ind i p o))
@@ -152,7 +152,7 @@ module _ (j : Job) where
     behind : (x : Annotations) (q n : ℕ) (R : Rows) → Not i R → Not i (unders (annotationsTree x bare) q n R)
     unfolding annotationsTree inner unders under
     behind absent q n R h = h
-    behind (annotations l xs) q n R h = not-annotations l q _
+    behind (annotations l xs) q n R h = not-annotations l q _ _
 
     members-from : (k : ℕ) (xs : List A) (x : Annotations) (q n : ℕ) (r : List Piece) (R C : Rows) (p : Cursor) (o : List ℕ) →
         sizes (each f xs bare) ≤ k → All G xs → q < n → After q R → Not i R → ((ys : List A) (m : ℕ) → N (unders (each f ys (annotationsTree x bare)) q m R)) →
@@ -196,23 +196,23 @@ module _ (j : Job) where
 
   field-kind : (x : Field) (q n : ℕ) (R : Rows) → OfKind 12 (under (fieldTree 0 x) q n R)
   unfolding fieldTree under
-  field-kind (field l c i y t m v x) q n R = begins 12 q _ l refl
+  field-kind (field l c i y t m v x) q n R = begins 12 q _ l _ refl
 
   member-kind : (x : EnumMember) (q n : ℕ) (R : Rows) → OfKind 13 (under (memberTree x) q n R)
   unfolding memberTree under
-  member-kind (member l c m v x) q n R = begins 13 q 0 l refl
+  member-kind (member l c m v x) q n R = begins 13 q 0 l _ refl
 
   function-kind : (x : Function) (q n : ℕ) (R : Rows) → OfKind 11 (under (functionTree x) q n R)
   unfolding functionTree under
-  function-kind (function l c w t m ps th x) q n R = begins 11 q _ l refl
+  function-kind (function l c w t m ps th x) q n R = begins 11 q _ l _ refl
 
   -- the first row behind a name or a function is neither a name nor a field
   functions-not : (i : ℕ) (fs : List Function) (x : Annotations) (q n : ℕ) (R : Rows) → eqb 11 i ≡ false → eqb 14 i ≡ false → Not i R →
       Not i (unders (each functionTree fs (annotationsTree x bare)) q n R)
   unfolding each functionTree annotationsTree inner unders under
   functions-not i [] absent q n R e f h = h
-  functions-not i [] (annotations l xs) q n R e f h = first 14 q 0 l f
-  functions-not i (function l c w t m ps th y ∷ fs) x q n R e f h = first 11 q _ l e
+  functions-not i [] (annotations l xs) q n R e f h = first 14 q 0 l _ f
+  functions-not i (function l c w t m ps th y ∷ fs) x q n R e f h = first 11 q _ l _ e
 
   module _ (ind : ℕ) (x : Annotations) (q n : ℕ) (r : List Piece) (R C : Rows) (p : Cursor) (o : List ℕ) (gx : EachAnnotations (Good (j .text)) x) (few : q < 4294967295) (l : q < n) (next : Next R) where
     fields-printed : (xs : List Field) → All (EachField (Good (j .text))) xs → Late (n + sizes (each (fieldTree 0) xs (annotationsTree x bare))) C →
@@ -221,7 +221,7 @@ module _ (j : Job) where
         Got (At j r (n + sizes (each (fieldTree 0) xs (annotationsTree x bare))) R C) (then (bodyOut (j .text) (j .nodes) (j .count) (j .comments) (j .total) ind 12 p o) (closeOut q))
     unfolding oneOut
     fields-printed xs gs late a =
-        body-printed ind 12 (fieldTree 0) (writeField (replicate ind 32)) (EachField (Good (j .text))) (λ R. Unit {0}) (omega arith) (λ l q R. first 14 q 0 l refl)
+        body-printed ind 12 (fieldTree 0) (writeField (replicate ind 32)) (EachField (Good (j .text))) (λ R. Unit {0}) (omega arith) (λ l q e R. first 14 q 0 l e refl)
         (λ x q n r R C p o g b u late a. field-printed j ind x q n r R C p o g b late a) field-kind xs x q n r R C p o gs gx few l (next-after q next)
         (next-not 12 (omega arith) next) (λ ys m. tt) late a
 
@@ -231,7 +231,7 @@ module _ (j : Job) where
         Got (At j r (n + sizes (each memberTree xs (annotationsTree x bare))) R C) (then (bodyOut (j .text) (j .nodes) (j .count) (j .comments) (j .total) ind 13 p o) (closeOut q))
     unfolding oneOut
     enum-members-printed xs gs late a =
-        body-printed ind 13 memberTree (writeMember (replicate ind 32)) (EachMember (Good (j .text))) (λ R. Unit {0}) (omega arith) (λ l q R. first 14 q 0 l refl)
+        body-printed ind 13 memberTree (writeMember (replicate ind 32)) (EachMember (Good (j .text))) (λ R. Unit {0}) (omega arith) (λ l q e R. first 14 q 0 l e refl)
         (λ x q n r R C p o g b u late a. member-printed j ind x q n r R C p o g b late a) member-kind xs x q n r R C p o gs gx few l (next-after q next)
         (next-not 13 (omega arith) next) (λ ys m. tt) late a
 
@@ -241,7 +241,7 @@ module _ (j : Job) where
         Got (At j r (n + sizes (each functionTree xs (annotationsTree x bare))) R C) (then (bodyOut (j .text) (j .nodes) (j .count) (j .comments) (j .total) ind 11 p o) (closeOut q))
     unfolding oneOut
     functions-printed xs gs late a =
-        body-printed ind 11 functionTree (writeFunction (replicate ind 32)) (EachFunction (Good (j .text))) (Not 12) (omega arith) (λ l q R. first 14 q 0 l refl)
+        body-printed ind 11 functionTree (writeFunction (replicate ind 32)) (EachFunction (Good (j .text))) (Not 12) (omega arith) (λ l q e R. first 14 q 0 l e refl)
         (λ x q n r R C p o g b u late a. function-printed j ind x q n r R C p o g b u late a) function-kind xs x q n r R C p o gs gx few l (next-after q next)
         (next-not 11 (omega arith) next) (λ ys m. functions-not 12 ys x q m R refl refl (next-not 12 (omega arith) next)) late a
 
@@ -251,7 +251,7 @@ module _ (j : Job) where
   unfolding extendsOut writeExtends perhaps past keyword unders under noteds nameTree leaf sayOut ascii bytesOf
   extends-printed none ts q n r R C p o g h a = rw (not-kind j 16 (omega arith) (h n) a) (got a)
   extends-printed (some (lexeme t w l)) ts q n r R C p o (esome g) h a =
-      rw (kind-is j 16 q 0 l a) (on (puts3 j _ (λ r. refl) a) λ p o a. name-printed j (lexeme t w l) q n r _ _ p o g a)
+      rw (kind-is j 16 q 0 l _ a) (on (puts3 j _ (λ r. refl) a) λ p o a. name-printed j (lexeme t w l) q n r _ _ p o g a)
 
   -- ---- a definition
 
@@ -266,7 +266,7 @@ module _ (j : Job) where
   start m k q n l c ts u v R C p o gc late word a rest =
       on (comments-printed j 0 n n c u _ _ p o (omega (arith, a .nodes-ahead .counts, j .few)) gc
       (late-forest ts (suc n) C (late-later (suc n + sizes ts) (n + suc (sizes ts)) (omega arith) late)) a) λ p o a.
-      on (passes j k q 0 l a) λ p o a. on (word _ _ p o a) λ p o a. rest p o a
+      on (passes j k q 0 l _ a) λ p o a. on (word _ _ p o a) λ p o a. rest p o a
 
   -- the number of its kind
   unfoldable kindOf : Definition → ℕ
@@ -366,18 +366,18 @@ module _ (j : Job) where
 
     kind-first : (d : Definition) (q n : ℕ) (R : Rows) → Begins (λ k p f. (k ≡ kindOf d) × (p ≡ q)) (under (definitionTree d) q n R)
     unfolding kindOf definitionTree under
-    kind-first (Include l c m) q n R = begins 1 q 0 l (refl, refl)
-    kind-first (CppInclude l c m) q n R = begins 2 q 0 l (refl, refl)
-    kind-first (Namespace l c s m) q n R = begins 3 q 0 l (refl, refl)
-    kind-first (Const l c t m v) q n R = begins 4 q 0 l (refl, refl)
-    kind-first (Typedef l c t m) q n R = begins 5 q 0 l (refl, refl)
-    kind-first (Enum l c m xs x) q n R = begins 6 q 0 l (refl, refl)
-    kind-first (structure s l c m xs x) q n R = begins (structureKind s) q 0 l (refl, refl)
-    kind-first (Service l c m y xs x) q n R = begins 10 q 0 l (refl, refl)
+    kind-first (Include l c m) q n R = begins 1 q 0 l _ (refl, refl)
+    kind-first (CppInclude l c m) q n R = begins 2 q 0 l _ (refl, refl)
+    kind-first (Namespace l c s m) q n R = begins 3 q 0 l _ (refl, refl)
+    kind-first (Const l c t m v) q n R = begins 4 q 0 l _ (refl, refl)
+    kind-first (Typedef l c t m) q n R = begins 5 q 0 l _ (refl, refl)
+    kind-first (Enum l c m xs x) q n R = begins 6 q 0 l _ (refl, refl)
+    kind-first (structure s l c m xs x) q n R = begins (structureKind s) q 0 l _ (refl, refl)
+    kind-first (Service l c m y xs x) q n R = begins 10 q 0 l _ (refl, refl)
 
     kind-told : {r : List Piece} {n : ℕ} {R C : Rows} {p : Cursor} {o : List ℕ} (d : Definition) (q : ℕ) → Begins (λ k p f. (k ≡ kindOf d) × (p ≡ q)) R → At j r n R C p o →
         kindAt (j .nodes) (j .count) (p .node) ≡ kindOf d
-    kind-told d q (begins k p f l e) a = kind-is j k p f l a ∙ e .0
+    kind-told d q (begins k p f l _ e) a = kind-is j k p f l _ a ∙ e .0
 
     definition-printed : (d : Definition) (q n : ℕ) (r : List Piece) (R C : Rows) (p : Cursor) (o : List ℕ) → EachDefinition (Good (j .text)) d → Next R →
         Late (n + size (definitionTree d)) C → n < 4294967295 → At j (writeDefinition (replicate ind 32) d r) n (under (definitionTree d) q n R) (noted (definitionTree d) n C) p o →
@@ -407,7 +407,7 @@ module _ (j : Job) where
     next-is (d ∷ ds) n = go (kind-first d 4294967295 n (unders (each definitionTree ds bare) 4294967295 (n + size (definitionTree d)) []))
       where
         go : {R : Rows} → Begins (λ k p f. (k ≡ kindOf d) × (p ≡ 4294967295)) R → Next R
-        go (begins k q f l e) = first k q f l (omega (arith, e .0, small-kind d), e .1)
+        go (begins k q f l _ e) = first k q f l _ (omega (arith, e .0, small-kind d), e .1)
 
     document-from : (k : ℕ) (ds : List Definition) (n : ℕ) (p : Cursor) (o : List ℕ) → sizes (each definitionTree ds bare) ≤ k → All (EachDefinition (Good (j .text))) ds →
         At j (writeEach nothing (writeDefinition (replicate ind 32)) ds []) n (unders (each definitionTree ds bare) 4294967295 n []) (noteds (each definitionTree ds bare) n []) p o →

@@ -50,7 +50,8 @@ use Rattle.ast.specs.Tree.{
   throwsTrees,
   functionTree,
 }
-use Rattle.ast.specs.Records.{size, sizes}
+use Rattle.ast.specs.Column as Col
+use Rattle.ast.specs.Records.{nodeWidth, size, sizes}
 use Rattle.parser.proofs.Lexemes.{EachOption, esome, EachField, EachMember, emember, EachFunction, efunction}
 use Rattle.writer.specs.Print.{
   Piece,
@@ -117,13 +118,13 @@ Stops thrown = Head (λ k q f. (eqb k 12 ≡ false) ⊎ (isOf thrown f ≡ false
 stops-behind : (thrown : Bool) (x : Annotations) (q m : ℕ) (R : Rows) → Not 12 R → Stops thrown (unders (annotationsTree x bare) q m R)
 unfolding annotationsTree inner unders under
 stops-behind thrown absent q m R h = weaker (λ k q f e. inl e) h
-stops-behind thrown (annotations l xs) q m R h = first 14 q 0 l (inl refl)
+stops-behind thrown (annotations l xs) q m R h = first 14 q 0 l _ (inl refl)
 
 stops-throws : (th : Option (List Field)) (x : Annotations) (q m : ℕ) (R : Rows) → Not 12 R → Stops false (unders (throwsTrees th (annotationsTree x bare)) q m R)
 unfolding throwsTrees each fieldTree unders under
 stops-throws none x q m R h = stops-behind false x q m R h
 stops-throws (some []) x q m R h = stops-behind false x q m R h
-stops-throws (some (field l c i y t n v a ∷ fs)) x q m R h = first 12 q (requiredFlag y + 16) l (inr (thrown-not y))
+stops-throws (some (field l c i y t n v a ∷ fs)) x q m R h = first 12 q (requiredFlag y + 16) l _ (inr (thrown-not y))
 
 -- ---- the list of them
 
@@ -148,16 +149,16 @@ either false A = refl
 
 module _ (j : Job) where
   stop-here : (thrown : Bool) (A B : Reached) {r : List Piece} {n : ℕ} {R C : Rows} {p : Cursor} {o : List ℕ} → Stops thrown R → At j r n R C p o →
-      cond (eqb (kindAt (j .nodes) (j .count) (p .node)) 12) (cond (isOf thrown (numberAt (j .nodes) (p .node) 2)) A B) B ≡ B
+      cond (eqb (kindAt (j .nodes) (j .count) (p .node)) 12) (cond (isOf thrown (numberAt nodeWidth (j .nodes) (p .node) Col.Flags)) A B) B ≡ B
   stop-here thrown A B none-left a = rw (no-kind j a) refl
-  stop-here thrown A B (first k q f l (inl e)) a = rw (kind-is j k q f l a, e)
-  stop-here thrown A B {p = p} (first k q f l (inr e)) a = rw (flags-are j k q f l a, e) (either (eqb (kindAt (j .nodes) (j .count) (p .node)) 12) B)
+  stop-here thrown A B (first k q f l _ (inl e)) a = rw (kind-is j k q f l _ a, e)
+  stop-here thrown A B {p = p} (first k q f l _ (inr e)) a = rw (flags-are j k q f l _ a, e) (either (eqb (kindAt (j .nodes) (j .count) (p .node)) 12) B)
 
   module _ (thrown : Bool) (g : ℕ) (of : (y : Required) → isOf thrown (requiredFlag y + g) ≡ true) where
     go-on : (A B : Reached) (x : Field) (q n : ℕ) (r : List Piece) (R C : Rows) (p : Cursor) (o : List ℕ) → At j r n (under (fieldTree g x) q n R) C p o →
-        cond (eqb (kindAt (j .nodes) (j .count) (p .node)) 12) (cond (isOf thrown (numberAt (j .nodes) (p .node) 2)) A B) B ≡ A
+        cond (eqb (kindAt (j .nodes) (j .count) (p .node)) 12) (cond (isOf thrown (numberAt nodeWidth (j .nodes) (p .node) Col.Flags)) A B) B ≡ A
     unfolding fieldTree under
-    go-on A B (field l c i y t m v x) q n r R C p o a = rw (kind-is j 12 q (requiredFlag y + g) l a, flags-are j 12 q (requiredFlag y + g) l a, of y)
+    go-on A B (field l c i y t m v x) q n r R C p o a = rw (kind-is j 12 q (requiredFlag y + g) l _ a, flags-are j 12 q (requiredFlag y + g) l _ a, of y)
 
     params-from : (k : ℕ) (b : Bool) (xs : List Field) (ts : Forest) (q n : ℕ) (r : List Piece) (R C : Rows) (p : Cursor) (o : List ℕ) →
         sizes (each (fieldTree g) xs bare) ≤ k → All (EachField (Good (j .text))) xs → q < n → After q R → ((m : ℕ) → Stops thrown (unders ts q m R)) →
@@ -223,9 +224,9 @@ module _ (j : Job) where
   -- its number and its flags
   function-flags : {r : List Piece} {C : Rows} {p : Cursor} {o : List ℕ} (R : Rows) (l : LOC) (c : List Lexeme) (w : Bool) (t : FieldType) (m : Lexeme) (ps : List Field)
       (th : Option (List Field)) (x : Annotations) (q n : ℕ) → At j r n (under (functionTree (function l c w t m ps th x)) q n R) C p o →
-      numberAt (j .nodes) (p .node) 2 ≡ onewayFlag w + throwsFlag th
+      numberAt nodeWidth (j .nodes) (p .node) Col.Flags ≡ onewayFlag w + throwsFlag th
   unfolding functionTree under
-  function-flags R l c w t m ps th x q n a = flags-are j 11 q (onewayFlag w + throwsFlag th) l a
+  function-flags R l c w t m ps th x q n a = flags-are j 11 q (onewayFlag w + throwsFlag th) l _ a
 
   function-by : (owner flags ind : ℕ) (l : LOC) (c : List Lexeme) (w : Bool) (t : FieldType) (m : Lexeme) (ps : List Field) (th : Option (List Field)) (x : Annotations)
       (q n : ℕ) (r : List Piece) (R C : Rows) (p : Cursor) (o : List ℕ) → owner ≡ n → flags ≡ onewayFlag w + throwsFlag th →
@@ -254,7 +255,7 @@ module _ (j : Job) where
       rw (eo, ef)
       (on (comments-printed j ind n n c _ _ _ p o few gc (late-forest ts (suc n) C (late-later (suc n + (size (typeTree t) + (size (nameTree m) + sizes vs))) all (omega arith) late)) a) λ p o a.
       on (spaces-printed j ind n _ _ _ p o a) λ p o a.
-      on (passes j 11 q (onewayFlag w + throwsFlag th) l a) λ p o a.
+      on (passes j 11 q (onewayFlag w + throwsFlag th) l _ a) λ p o a.
       on (oneway-printed w th (suc n) _ _ _ p o a) λ p o a.
       on (typed-name-printed j t m vs n (suc n) _ R C p o gt gm a) λ p o a.
       on (puts1 j _ (λ r. refl) a) λ p o a.
@@ -269,7 +270,7 @@ module _ (j : Job) where
       Got (At j r (n + size (functionTree x)) R C) (functionOut (j .text) (j .nodes) (j .count) (j .comments) (j .total) ind p o)
   unfolding functionOut
   function-printed ind (function l c w t m ps th x) q n r R C p o g b stop late a =
-      function-by (p .node) (numberAt (j .nodes) (p .node) 2) ind l c w t m ps th x q n r R C p o (a .node) (function-flags R l c w t m ps th x q n a) g b stop late a
+      function-by (p .node) (numberAt nodeWidth (j .nodes) (p .node) Col.Flags) ind l c w t m ps th x q n r R C p o (a .node) (function-flags R l c w t m ps th x q n a) g b stop late a
 
   -- ---- an enum member
 
@@ -296,7 +297,7 @@ module _ (j : Job) where
       rw eo
       (on (comments-printed j ind n n c _ _ _ p o few gc (late-forest ts (suc n) C (late-later (suc n + (size (nameTree m) + sizes us)) all (omega arith) late)) a) λ p o a.
       on (spaces-printed j ind n _ _ _ p o a) λ p o a.
-      on (passes j 13 q 0 l a) λ p o a.
+      on (passes j 13 q 0 l _ a) λ p o a.
       on (name-printed j m n (suc n) _ _ _ p o gm a) λ p o a.
       on (initializer-printed j v x n k _ R C p o gv few (omega arith) b a) λ p o a.
       on (annotations-printed j x n (past literalTree v k) _ R C p o gx few (omega (arith, later)) b a) λ p o a.

@@ -6,6 +6,8 @@ use mathlib.Core.List.{List, [], _∷_}
 use Prim.Native.Nat.{ℕ}
 use lib.Dec.{eqb, ltb}
 use Rattle.token.specs.Regex.{bytes as ascii}
+use Rattle.ast.specs.Column as Col
+use Rattle.ast.specs.Records.{nodeWidth}
 use Rattle.cursor.specs.declared.Cursor.{Cursor}
 use Rattle.cursor.specs.Onto.{W, _⨟_, commentsOut, reached, kindAt, numberAt, passNode, putOut, sayOut, spacesOut, then, tokenOut}
 use Rattle.write_fields.specs.Onto.{annotationsOut, assignedOut, fieldOut, paramsOut, typedNameOut, valueOut}
@@ -37,7 +39,7 @@ function-tail-is text nodes count comments total owner f p o = refl
 
 -- f: the flags of the node ahead
 pub function-is : (text nodes : List ℕ) (count : ℕ) (comments : List ℕ) (total indent : ℕ) (p : Cursor) (o : List ℕ) {f : ℕ} →
-    f ≡ numberAt nodes (p .node) 2 → functionOut text nodes count comments total indent p o ≡
+    f ≡ numberAt nodeWidth nodes (p .node) Col.Flags → functionOut text nodes count comments total indent p o ≡
     then (commentsOut text comments total (p .node) indent p o)
     (spacesOut indent
     ⨟ (passNode ⨟ (onewayOut f ⨟ (typedNameOut text nodes count ⨟ functionTailOut text nodes count comments total (p .node) f))))

@@ -7,6 +7,7 @@ use lib.Dec.{eqb, ltb}
 use Rattle.parser.specs.Definitions.{nesting}
 use Rattle.ast.specs.Column as C
 use Rattle.ast.specs.Kind as K
+use Rattle.ast.specs.Records.{nodeWidth}
 use Rattle.cursor.specs.Onto.{reached, W, then, _⨟_, numberAt, kindAt, passNode, sayOut, tokenOut, spacesOut, commentsOut}
 use Rattle.write_fields.specs.Onto.{valueOut, annotationsOut, assignedOut, typedNameOut, fieldOut, paramsOut}
 
@@ -31,8 +32,8 @@ functionOut text nodes count comments total indent p o =
     then (commentsOut text comments total (p .node) indent p o)
     (spacesOut indent
     ⨟ (passNode
-    ⨟ (onewayOut (numberAt nodes (p .node) C.Flags)
-    ⨟ (typedNameOut text nodes count ⨟ functionTailOut text nodes count comments total (p .node) (numberAt nodes (p .node) C.Flags)))))
+    ⨟ (onewayOut (numberAt nodeWidth nodes (p .node) C.Flags)
+    ⨟ (typedNameOut text nodes count ⨟ functionTailOut text nodes count comments total (p .node) (numberAt nodeWidth nodes (p .node) C.Flags)))))
 
 unfoldable pub memberOut : List ℕ → List ℕ → ℕ → List ℕ → ℕ → ℕ → W
 memberOut text nodes count comments total indent p o =

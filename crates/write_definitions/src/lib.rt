@@ -1,8 +1,8 @@
 // The print of functions, enum members and definitions: rico's writer/document.rs.
-ghost use Rattle.ast.specs.Records.{room};
+ghost use Rattle.ast.specs.Records.{commentWidth, nodeWidth, room};
 ghost use Rattle.cursor.specs.Onto.{Writes};
 ghost use Rattle.write_definitions.specs.Onto.{throwsOut, onewayOut, functionTailOut, functionOut, memberOut, oneOut, membersFrom, bodyOut, extendsOut, keywordOut, namespaceOut, constOut, lineOut, blockOut, definitionOut, documentOut};
-use ast::WIDTH;
+use ast::NODE_WIDTH;
 use ast::column;
 use ast::flag;
 use cursor::Cursor;
@@ -18,7 +18,7 @@ fn write_throws(
     at: Cursor,
     flags: u32,
 ) -> Cursor
-    ensures { λ r. ⌜ Writes (throwsOut (now (text .entry)) (now (nodes .entry)) (room (now (nodes .entry))) (now (comments .entry)) (room (now (comments .entry))) flags) at r (now (out .entry)) (now (out .exit)) ⌝ }
+    ensures { λ r. ⌜ Writes (throwsOut (now (text .entry)) (now (nodes .entry)) (room nodeWidth (now (nodes .entry))) (now (comments .entry)) (room commentWidth (now (comments .entry))) flags) at r (now (out .entry)) (now (out .exit)) ⌝ }
 {
     if flags < flag::THROWS {
         return at;
@@ -50,7 +50,7 @@ fn write_function_tail(
     owner: u32,
     flags: u32,
 ) -> Cursor
-    ensures { λ r. ⌜ Writes (functionTailOut (now (text .entry)) (now (nodes .entry)) (room (now (nodes .entry))) (now (comments .entry)) (room (now (comments .entry))) owner flags) at r (now (out .entry)) (now (out .exit)) ⌝ }
+    ensures { λ r. ⌜ Writes (functionTailOut (now (text .entry)) (now (nodes .entry)) (room nodeWidth (now (nodes .entry))) (now (comments .entry)) (room commentWidth (now (comments .entry))) owner flags) at r (now (out .entry)) (now (out .exit)) ⌝ }
 {
     let opened = cursor::put(out, at, b"(");
     let params = write_fields::write_params(text, nodes, comments, out, opened, false);
@@ -69,7 +69,7 @@ fn write_function(
     at: Cursor,
     indent: u32,
 ) -> Cursor
-    ensures { λ r. ⌜ Writes (functionOut (now (text .entry)) (now (nodes .entry)) (room (now (nodes .entry))) (now (comments .entry)) (room (now (comments .entry))) indent) at r (now (out .entry)) (now (out .exit)) ⌝ }
+    ensures { λ r. ⌜ Writes (functionOut (now (text .entry)) (now (nodes .entry)) (room nodeWidth (now (nodes .entry))) (now (comments .entry)) (room commentWidth (now (comments .entry))) indent) at r (now (out .entry)) (now (out .exit)) ⌝ }
 {
     let noted = cursor::put_comments(text, comments, out, at, indent);
     let spaced = cursor::put_spaces(out, noted, indent);
@@ -88,7 +88,7 @@ fn write_member(
     at: Cursor,
     indent: u32,
 ) -> Cursor
-    ensures { λ r. ⌜ Writes (memberOut (now (text .entry)) (now (nodes .entry)) (room (now (nodes .entry))) (now (comments .entry)) (room (now (comments .entry))) indent) at r (now (out .entry)) (now (out .exit)) ⌝ }
+    ensures { λ r. ⌜ Writes (memberOut (now (text .entry)) (now (nodes .entry)) (room nodeWidth (now (nodes .entry))) (now (comments .entry)) (room commentWidth (now (comments .entry))) indent) at r (now (out .entry)) (now (out .exit)) ⌝ }
 {
     let noted = cursor::put_comments(text, comments, out, at, indent);
     let spaced = cursor::put_spaces(out, noted, indent);
@@ -111,7 +111,7 @@ fn write_one(
     indent: u32,
     kind: u32,
 ) -> Cursor
-    ensures { λ r. ⌜ Writes (oneOut (now (text .entry)) (now (nodes .entry)) (room (now (nodes .entry))) (now (comments .entry)) (room (now (comments .entry))) indent kind) at r (now (out .entry)) (now (out .exit)) ⌝ }
+    ensures { λ r. ⌜ Writes (oneOut (now (text .entry)) (now (nodes .entry)) (room nodeWidth (now (nodes .entry))) (now (comments .entry)) (room commentWidth (now (comments .entry))) indent kind) at r (now (out .entry)) (now (out .exit)) ⌝ }
 {
     if kind == ast::kind::FUNCTION {
         return write_function(text, nodes, comments, out, at, indent);
@@ -131,10 +131,10 @@ fn write_members(
     indent: u32,
     kind: u32,
 ) -> Cursor
-    ensures { λ r. ⌜ Writes (membersFrom (now (text .entry)) (now (nodes .entry)) (room (now (nodes .entry))) (now (comments .entry)) (room (now (comments .entry))) indent kind (room (now (nodes .entry)))) at r (now (out .entry)) (now (out .exit)) ⌝ }
+    ensures { λ r. ⌜ Writes (membersFrom (now (text .entry)) (now (nodes .entry)) (room nodeWidth (now (nodes .entry))) (now (comments .entry)) (room commentWidth (now (comments .entry))) indent kind (room nodeWidth (now (nodes .entry)))) at r (now (out .entry)) (now (out .exit)) ⌝ }
 {
     let mut now = at;
-    let mut left = nodes.len() / WIDTH;
+    let mut left = nodes.len() / NODE_WIDTH;
     while 0 < left {
         if cursor::kind_at(nodes, now.node) != kind {
             return now;
@@ -155,7 +155,7 @@ fn write_body(
     indent: u32,
     kind: u32,
 ) -> Cursor
-    ensures { λ r. ⌜ Writes (bodyOut (now (text .entry)) (now (nodes .entry)) (room (now (nodes .entry))) (now (comments .entry)) (room (now (comments .entry))) indent kind) at r (now (out .entry)) (now (out .exit)) ⌝ }
+    ensures { λ r. ⌜ Writes (bodyOut (now (text .entry)) (now (nodes .entry)) (room nodeWidth (now (nodes .entry))) (now (comments .entry)) (room commentWidth (now (comments .entry))) indent kind) at r (now (out .entry)) (now (out .exit)) ⌝ }
 {
     let opened = cursor::put(out, at, b" {\n");
     let members = write_members(text, nodes, comments, out, opened, indent, kind);
@@ -163,7 +163,7 @@ fn write_body(
 }
 
 fn write_extends(text: &[u8], nodes: &[u32], out: &mut [u8], at: Cursor) -> Cursor
-    ensures { λ r. ⌜ Writes (extendsOut (now (text .entry)) (now (nodes .entry)) (room (now (nodes .entry)))) at r (now (out .entry)) (now (out .exit)) ⌝ }
+    ensures { λ r. ⌜ Writes (extendsOut (now (text .entry)) (now (nodes .entry)) (room nodeWidth (now (nodes .entry)))) at r (now (out .entry)) (now (out .exit)) ⌝ }
 {
     if cursor::kind_at(nodes, at.node) != ast::kind::NAME {
         return at;
@@ -217,7 +217,7 @@ fn write_namespace(text: &[u8], nodes: &[u32], out: &mut [u8], at: Cursor) -> Cu
 
 // const, behind its keyword
 fn write_const(text: &[u8], nodes: &[u32], out: &mut [u8], at: Cursor) -> Cursor
-    ensures { λ r. ⌜ Writes (constOut (now (text .entry)) (now (nodes .entry)) (room (now (nodes .entry)))) at r (now (out .entry)) (now (out .exit)) ⌝ }
+    ensures { λ r. ⌜ Writes (constOut (now (text .entry)) (now (nodes .entry)) (room nodeWidth (now (nodes .entry)))) at r (now (out .entry)) (now (out .exit)) ⌝ }
 {
     let named = write_fields::write_typed_name(text, nodes, out, at);
     let equals = cursor::put(out, named, b" = ");
@@ -227,7 +227,7 @@ fn write_const(text: &[u8], nodes: &[u32], out: &mut [u8], at: Cursor) -> Cursor
 
 // a definition of one line, behind its keyword
 fn write_line(text: &[u8], nodes: &[u32], out: &mut [u8], at: Cursor, kind: u32) -> Cursor
-    ensures { λ r. ⌜ Writes (lineOut (now (text .entry)) (now (nodes .entry)) (room (now (nodes .entry))) kind) at r (now (out .entry)) (now (out .exit)) ⌝ }
+    ensures { λ r. ⌜ Writes (lineOut (now (text .entry)) (now (nodes .entry)) (room nodeWidth (now (nodes .entry))) kind) at r (now (out .entry)) (now (out .exit)) ⌝ }
 {
     if kind < ast::kind::NAMESPACE {
         let named = cursor::put_token(text, nodes, out, at);
@@ -253,7 +253,7 @@ fn write_block(
     indent: u32,
     kind: u32,
 ) -> Cursor
-    ensures { λ r. ⌜ Writes (blockOut (now (text .entry)) (now (nodes .entry)) (room (now (nodes .entry))) (now (comments .entry)) (room (now (comments .entry))) indent kind) at r (now (out .entry)) (now (out .exit)) ⌝ }
+    ensures { λ r. ⌜ Writes (blockOut (now (text .entry)) (now (nodes .entry)) (room nodeWidth (now (nodes .entry))) (now (comments .entry)) (room commentWidth (now (comments .entry))) indent kind) at r (now (out .entry)) (now (out .exit)) ⌝ }
 {
     let named = cursor::put_token(text, nodes, out, at);
     if kind == ast::kind::ENUM {
@@ -291,7 +291,7 @@ fn write_definition(
     at: Cursor,
     indent: u32,
 ) -> Cursor
-    ensures { λ r. ⌜ Writes (definitionOut (now (text .entry)) (now (nodes .entry)) (room (now (nodes .entry))) (now (comments .entry)) (room (now (comments .entry))) indent) at r (now (out .entry)) (now (out .exit)) ⌝ }
+    ensures { λ r. ⌜ Writes (definitionOut (now (text .entry)) (now (nodes .entry)) (room nodeWidth (now (nodes .entry))) (now (comments .entry)) (room commentWidth (now (comments .entry))) indent) at r (now (out .entry)) (now (out .exit)) ⌝ }
 {
     let kind = cursor::kind_at(nodes, at.node);
     let noted = cursor::put_comments(text, comments, out, at, 0);
@@ -313,12 +313,12 @@ pub fn write_document(
     at: Cursor,
     indent: u32,
 ) -> Cursor
-    ensures { λ r. ⌜ Writes (documentOut (now (text .entry)) (now (nodes .entry)) (room (now (nodes .entry))) (now (comments .entry)) (room (now (comments .entry))) indent) at r (now (out .entry)) (now (out .exit)) ⌝ }
+    ensures { λ r. ⌜ Writes (documentOut (now (text .entry)) (now (nodes .entry)) (room nodeWidth (now (nodes .entry))) (now (comments .entry)) (room commentWidth (now (comments .entry))) indent) at r (now (out .entry)) (now (out .exit)) ⌝ }
 {
     let mut now = at;
-    let mut left = nodes.len() / WIDTH;
+    let mut left = nodes.len() / NODE_WIDTH;
     while 0 < left {
-        if nodes.len() / WIDTH <= now.node as usize {
+        if nodes.len() / NODE_WIDTH <= now.node as usize {
             return now;
         }
         now = write_definition(text, nodes, comments, out, now, indent);

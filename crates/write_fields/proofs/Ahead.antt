@@ -12,13 +12,15 @@ use Prim.Native.Nat.{ℕ, suc, _+_, _*_, _-_, _≤_, _<_}
 use native.Mathlib.Omega.{arith}
 use lib.Dec.{leb}
 use lib.ListN.{length, take, drop, getD, List·getD-append, length-append, length-drop}
-use lib.Seq.{drop-drop, getD-drop, take-append-seam, drop-append-add}
+use lib.Seq.{drop-drop, getD-drop, take-append-seam, drop-append-add, drop-at}
 use borrow.Author.Tests.{leb-true, leb-false, lt-leb, lt-ltb, le-ltb}
 use Rattle.lexer.specs.declared.location.LOC.{LOC}
 use Rattle.lexer.specs.Tokens.{Lexeme, lexeme}
 use Rattle.ast.specs.Tree.{Tree, node, Forest, bare, grown}
 use Rattle.ast.specs.Largest.{bump}
-use Rattle.ast.specs.Records.{width, noParent, row, size, commentRow, concat}
+use Rattle.ast.specs.Column as Col
+use Rattle.ast.specs.Records.{commentWidth, nodeWidth, noParent, row, nodeRow, size, commentRow, concat}
+use Rattle.ast.proofs.Counts.{Wide, row-width, node-row-width}
 use Rattle.parser.specs.Steps.{bytes, place}
 use Rattle.parser.proofs.Lexemes.{Stands}
 use Rattle.writer.specs.Print.{Piece, bytesOf, own}
@@ -32,7 +34,7 @@ Rows = List (List ℕ)
 
 unfoldable mutual
   pub under : Tree → ℕ → ℕ → Rows → Rows
-  under (node k f l w c ts) q n R = row k q f l ∷ unders ts n (suc n) R
+  under (node k f l w c ts) q n R = nodeRow k q f l (n + size (node k f l w c ts)) ∷ unders ts n (suc n) R
 
   pub unders : Forest → ℕ → ℕ → Rows → Rows
   unders bare q n R = R
@@ -50,10 +52,10 @@ unfoldable mutual
   noteds bare n C = C
   noteds (grown t ts) n C = noted t n (noteds ts (n + size t) C)
 
--- a table holds these rows from row n on, and no more
-pub record Ahead (table : List ℕ) (count n : ℕ) (rs : Rows) : Type 0 where
+-- a table of records of w numbers holds these rows from row n on, and no more
+pub record Ahead (w : ℕ) (table : List ℕ) (count n : ℕ) (rs : Rows) : Type 0 where
   pub pad : List ℕ
-  pub lies : drop (n * width) table ≡ concat rs ++ pad
+  pub lies : drop (n * w) table ≡ concat rs ++ pad
   pub counts : n + length rs ≡ count
 
 -- bytes were printed, all that fitted, and these are left
@@ -94,56 +96,66 @@ pub record Job : Type 0 where
 
 pub record At (j : Job) (r : List Piece) (n : ℕ) (R C : Rows) (p : Cursor) (o : List ℕ) : Type 0 where
   pub node : p .node ≡ n
-  pub nodes-ahead : Ahead (j .nodes) (j .count) n R
-  pub notes-ahead : Ahead (j .comments) (j .total) (p .comment) C
+  pub nodes-ahead : Ahead nodeWidth (j .nodes) (j .count) n R
+  pub notes-ahead : Ahead commentWidth (j .comments) (j .total) (p .comment) C
   pub bytes : Fits (j .start) (j .whole) (bytesOf r) (p .length) o ⊎ Over (j .start) (j .whole) (bytesOf r) (p .length) o
 
 -- ---- rows
 
--- past a row
-ahead-next : (t : List ℕ) (count n k q f : ℕ) (l : LOC) (R : Rows) → Ahead t count n (row k q f l ∷ R) → Ahead t count (suc n) R
-unfolding concat row width
-ahead-next t count n k q f l R a =
-    record {
-      pad = a .pad;
-      lies =
-          let e : suc n * 9 ≡ n * 9 + 9 = omega arith in
-          rw e (sym (drop-drop 9 (n * 9) t) ∙ ap (drop 9) (a .lies));
-      counts = omega (arith, a .counts);
-    }
+module _ {w : ℕ} (t : List ℕ) (count n : ℕ) {x : List ℕ} {R : Rows} (h : Wide w x) (a : Ahead w t count n (x ∷ R)) where
+  -- past a row
+  ahead-next : Ahead w t count (suc n) R
+  unfolding concat
+  ahead-next =
+      record {
+        pad = a .pad;
+        lies =
+            let e : suc n * w ≡ n * w + w = omega arith in
+            rw e (sym (drop-drop w (n * w) t) ∙ ap (drop w) (a .lies ∙ append-assoc x (concat R) (a .pad)) ∙ drop-at x (concat R ++ a .pad) w h);
+        counts = omega (arith, a .counts);
+      }
 
--- a number of the next row
-ahead-number : (t : List ℕ) (count n i : ℕ) (x : List ℕ) (R : Rows) → i < length x → length x ≡ 9 → Ahead t count n (x ∷ R) → numberAt t n i ≡ getD x i 0
-unfolding numberAt concat width
-ahead-number t count n i x R h w a =
-    rw (lt-leb 9 i (omega arith))
-    (sym (getD-drop (n * 9) t i 0) ∙ ap (λ (y : List ℕ). getD y i 0) (a .lies ∙ append-assoc x (concat R) (a .pad)) ∙ List·getD-append x (concat R ++ a .pad) 0 i h)
+  -- a number of the next row
+  ahead-number : (i : ℕ) → i < w → numberAt w t n i ≡ getD x i 0
+  unfolding numberAt concat
+  ahead-number i l =
+      rw (lt-leb w i l)
+      (sym (getD-drop (n * w) t i 0)
+      ∙ ap (λ (y : List ℕ). getD y i 0) (a .lies ∙ append-assoc x (concat R) (a .pad))
+      ∙ List·getD-append x (concat R ++ a .pad) 0 i (omega arith))
+
+  -- its parent
+  ahead-parent : Col.Parent < w → parentAt w t count n ≡ getD x Col.Parent 0
+  unfolding parentAt
+  ahead-parent l = rw (lt-ltb n count (omega (arith, a .counts))) (ahead-number Col.Parent l)
 
 -- ---- the records ahead
 
 module _ (j : Job) {r : List Piece} {n : ℕ} {R C : Rows} {p : Cursor} {o : List ℕ} where
-  pub kind-is : (k q f : ℕ) (l : LOC) → At j r n (row k q f l ∷ R) C p o → kindAt (j .nodes) (j .count) (p .node) ≡ k
-  unfolding kindAt row
-  kind-is k q f l a =
-      let h : n < j .count = omega (arith, a .nodes-ahead .counts) in
-      rw (a .node, lt-ltb n (j .count) h) (ahead-number (j .nodes) (j .count) n 0 (row k q f l) R (omega arith) refl (a .nodes-ahead))
+  -- a number of the next node, and of the next comment
+  pub number-is : (k q f : ℕ) (l : LOC) (e : ℕ) (i : ℕ) → i < nodeWidth → At j r n (nodeRow k q f l e ∷ R) C p o → numberAt nodeWidth (j .nodes) (p .node) i ≡ getD (nodeRow k q f l e) i 0
+  number-is k q f l e i h a = rw (a .node) (ahead-number (j .nodes) (j .count) n (node-row-width k q f l e) (a .nodes-ahead) i h)
 
-  pub parent-is : (k q f : ℕ) (l : LOC) → At j r n (row k q f l ∷ R) C p o → parentAt (j .nodes) (j .count) (p .node) ≡ q
-  unfolding parentAt row
-  parent-is k q f l a =
-      let h : n < j .count = omega (arith, a .nodes-ahead .counts) in
-      rw (a .node, lt-ltb n (j .count) h) (ahead-number (j .nodes) (j .count) n 1 (row k q f l) R (omega arith) refl (a .nodes-ahead))
+  pub note-number-is : (k q f : ℕ) (l : LOC) (i : ℕ) → i < commentWidth → At j r n R (row k q f l ∷ C) p o → numberAt commentWidth (j .comments) (p .comment) i ≡ getD (row k q f l) i 0
+  note-number-is k q f l i h a = ahead-number (j .comments) (j .total) (p .comment) (row-width k q f l) (a .notes-ahead) i h
 
-  pub flags-are : (k q f : ℕ) (l : LOC) → At j r n (row k q f l ∷ R) C p o → numberAt (j .nodes) (p .node) 2 ≡ f
-  unfolding row
-  flags-are k q f l a = rw (a .node) (ahead-number (j .nodes) (j .count) n 2 (row k q f l) R (omega arith) refl (a .nodes-ahead))
+  pub kind-is : (k q f : ℕ) (l : LOC) (e : ℕ) → At j r n (nodeRow k q f l e ∷ R) C p o → kindAt (j .nodes) (j .count) (p .node) ≡ k
+  unfolding kindAt nodeRow row nodeWidth
+  kind-is k q f l e a =
+      let h : p .node < j .count = omega (arith, a .node, a .nodes-ahead .counts) in
+      rw (lt-ltb (p .node) (j .count) h) (number-is k q f l e 0 (omega arith) a)
 
-  pub note-parent-is : (k q f : ℕ) (l : LOC) → At j r n R (row k q f l ∷ C) p o → parentAt (j .comments) (j .total) (p .comment) ≡ q
-  unfolding parentAt row
-  note-parent-is k q f l a =
-      let h : p .comment < j .total = omega (arith, a .notes-ahead .counts) in
-      rw (lt-ltb (p .comment) (j .total) h)
-      (ahead-number (j .comments) (j .total) (p .comment) 1 (row k q f l) C (omega arith) refl (a .notes-ahead))
+  pub flags-are : (k q f : ℕ) (l : LOC) (e : ℕ) → At j r n (nodeRow k q f l e ∷ R) C p o → numberAt nodeWidth (j .nodes) (p .node) Col.Flags ≡ f
+  unfolding nodeRow row nodeWidth
+  flags-are k q f l e a = number-is k q f l e Col.Flags (omega arith) a
+
+  pub parent-is : (k q f : ℕ) (l : LOC) (e : ℕ) → At j r n (nodeRow k q f l e ∷ R) C p o → parentAt nodeWidth (j .nodes) (j .count) (p .node) ≡ q
+  unfolding nodeRow row nodeWidth
+  parent-is k q f l e a = rw (a .node) (ahead-parent (j .nodes) (j .count) n (node-row-width k q f l e) (a .nodes-ahead) (omega arith))
+
+  pub note-parent-is : (k q f : ℕ) (l : LOC) → At j r n R (row k q f l ∷ C) p o → parentAt commentWidth (j .comments) (j .total) (p .comment) ≡ q
+  unfolding row commentWidth
+  note-parent-is k q f l a = ahead-parent (j .comments) (j .total) (p .comment) (row-width k q f l) (a .notes-ahead) (omega arith)
 
   -- the same place, said otherwise
   pub moved : (m : ℕ) → n ≡ m → At j r n R C p o → At j r m R C p o
@@ -151,20 +163,20 @@ module _ (j : Job) {r : List Piece} {n : ℕ} {R C : Rows} {p : Cursor} {o : Lis
 
   -- ---- steps
 
-  pub passes : (k q f : ℕ) (l : LOC) → At j r n (row k q f l ∷ R) C p o → Got (At j r (suc n) R C) (passNode p o)
-  unfolding passNode bump row
-  passes k q f l a =
+  pub passes : (k q f : ℕ) (l : LOC) (e : ℕ) → At j r n (nodeRow k q f l e ∷ R) C p o → Got (At j r (suc n) R C) (passNode p o)
+  unfolding passNode bump
+  passes k q f l e a =
       let h : p .node < 4294967295 = omega (arith, a .node, a .nodes-ahead .counts, j .few) in
       rw (lt-ltb (p .node) 4294967295 h)
       (got {p = record { node = p .node + 1; comment = p .comment; length = p .length }} (record {
         node = omega (arith, a .node);
-        nodes-ahead = ahead-next (j .nodes) (j .count) n k q f l R (a .nodes-ahead);
+        nodes-ahead = ahead-next (j .nodes) (j .count) n (node-row-width k q f l e) (a .nodes-ahead);
         notes-ahead = a .notes-ahead;
         bytes = a .bytes;
       }))
 
   pub passes-note : (k q f : ℕ) (l : LOC) → At j r n R (row k q f l ∷ C) p o → Got (At j r n R C) (passComment p o)
-  unfolding passComment bump row
+  unfolding passComment bump
   passes-note k q f l a =
       let h : p .comment < 4294967295 = omega (arith, a .notes-ahead .counts, j .brief) in
       let e : suc (p .comment) ≡ p .comment + 1 = omega arith in
@@ -172,7 +184,7 @@ module _ (j : Job) {r : List Piece} {n : ℕ} {R C : Rows} {p : Cursor} {o : Lis
       (got {p = record { node = p .node; comment = p .comment + 1; length = p .length }} (record {
         node = a .node;
         nodes-ahead = a .nodes-ahead;
-        notes-ahead = rw e at (ahead-next (j .comments) (j .total) (p .comment) k q f l C (a .notes-ahead));
+        notes-ahead = rw e at (ahead-next (j .comments) (j .total) (p .comment) (row-width k q f l) (a .notes-ahead));
         bytes = a .bytes;
       }))
 
@@ -182,11 +194,11 @@ module _ (j : Job) {r : List Piece} {n : ℕ} {X : Rows} {p : Cursor} {o : List 
   unfolding kindAt
   no-kind a = rw (a .node, le-ltb n (j .count) (omega (arith, a .nodes-ahead .counts)))
 
-  pub no-parent : At j r n [] X p o → parentAt (j .nodes) (j .count) (p .node) ≡ 4294967295
+  pub no-parent : At j r n [] X p o → parentAt nodeWidth (j .nodes) (j .count) (p .node) ≡ 4294967295
   unfolding parentAt noParent
   no-parent a = rw (a .node, le-ltb n (j .count) (omega (arith, a .nodes-ahead .counts)))
 
-  pub no-note-parent : At j r n X [] p o → parentAt (j .comments) (j .total) (p .comment) ≡ 4294967295
+  pub no-note-parent : At j r n X [] p o → parentAt commentWidth (j .comments) (j .total) (p .comment) ≡ 4294967295
   unfolding parentAt noParent
   no-note-parent a = rw (le-ltb (p .comment) (j .total) (omega (arith, a .notes-ahead .counts)))
 
@@ -296,21 +308,10 @@ module _ (j : Job) {n : ℕ} {R C : Rows} {p : Cursor} {o : List ℕ} where
       At j (u ∷ v ∷ w ∷ x ∷ r) n R C p o → Got (At j r n R C) (putOut b p o)
   puts4 {u} {v} {w} {x} {r} b e a = puts j b (u ∷ v ∷ w ∷ x ∷ r) (e r) a
 
--- a number of the next record
-pub number-is : (j : Job) {r : List Piece} {n : ℕ} {R C : Rows} {p : Cursor} {o : List ℕ} (k q f : ℕ) (l : LOC) (i : ℕ) → i < 9 → At j r n (row k q f l ∷ R) C p o →
-    numberAt (j .nodes) (p .node) i ≡ getD (row k q f l) i 0
-unfolding row
-number-is j {n = n} {R = R} k q f l i h a = rw (a .node) (ahead-number (j .nodes) (j .count) n i (row k q f l) R h refl (a .nodes-ahead))
-
-pub note-number-is : (j : Job) {r : List Piece} {n : ℕ} {R C : Rows} {p : Cursor} {o : List ℕ} (k q f : ℕ) (l : LOC) (i : ℕ) → i < 9 → At j r n R (row k q f l ∷ C) p o →
-    numberAt (j .comments) (p .comment) i ≡ getD (row k q f l) i 0
-unfolding row
-note-number-is j {C = C} {p = p} k q f l i h a = ahead-number (j .comments) (j .total) (p .comment) i (row k q f l) C h refl (a .notes-ahead)
-
 -- the next record is a token: its bytes are printed, and it is passed
-pub prints-token : (j : Job) {r : List Piece} {n : ℕ} {R C : Rows} {p : Cursor} {o : List ℕ} (x : Lexeme) (k q f : ℕ) → Stands (j .text) x →
-    At j (own x ∷ r) n (row k q f (place x) ∷ R) C p o → Got (At j r (suc n) R C) (tokenOut (j .text) (j .nodes) p o)
-unfolding tokenOut own bytesOf bytes place row
-prints-token j {r} {n} {R} {C} {p} {o} (lexeme t w l) k q f s a =
-    rw (number-is j k q f l 3 (omega arith) a, number-is j k q f l 6 (omega arith) a)
-    (on (puts-part j (lexeme t w l) (own (lexeme t w l) ∷ r) s refl a) λ p o a. passes j k q f l a)
+pub prints-token : (j : Job) {r : List Piece} {n : ℕ} {R C : Rows} {p : Cursor} {o : List ℕ} (x : Lexeme) (k q f e : ℕ) → Stands (j .text) x →
+    At j (own x ∷ r) n (nodeRow k q f (place x) e ∷ R) C p o → Got (At j r (suc n) R C) (tokenOut (j .text) (j .nodes) p o)
+unfolding tokenOut own bytesOf bytes place nodeRow row nodeWidth
+prints-token j {r} {n} {R} {C} {p} {o} (lexeme t w l) k q f e s a =
+    rw (number-is j k q f l e Col.Start (omega arith) a, number-is j k q f l e Col.End (omega arith) a)
+    (on (puts-part j (lexeme t w l) (own (lexeme t w l) ∷ r) s refl a) λ p o a. passes j k q f l e a)

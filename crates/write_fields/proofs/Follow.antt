@@ -15,7 +15,7 @@ use borrow.Author.Tests.{ltb-true, eqb-true, lt-ltb, ne-eqb}
 use Rattle.lexer.specs.declared.location.LOC.{LOC}
 use Rattle.lexer.specs.Tokens.{Lexeme, lexeme}
 use Rattle.ast.specs.Tree.{Tree, node, Forest, bare, grown}
-use Rattle.ast.specs.Records.{noParent, row, size, sizes, commentRow}
+use Rattle.ast.specs.Records.{commentWidth, nodeWidth, noParent, row, nodeRow, size, sizes, commentRow}
 use Rattle.writer.specs.Print.{Piece}
 use Rattle.cursor.specs.declared.Cursor.{Cursor}
 use Rattle.cursor.specs.Onto.{kindAt, parentAt, below}
@@ -24,15 +24,15 @@ use Rattle.write_fields.proofs.Ahead.{Rows, under, unders, ownedBefore,
 -- kind, parent and flags of the first row left, if any
 pub data Head (P : ℕ → ℕ → ℕ → Type 0) : Rows → Type 0 where
   none-left : Head P []
-  first : (k q f : ℕ) (l : LOC) {R : Rows} → P k q f → Head P (row k q f l ∷ R)
+  first : (k q f : ℕ) (l : LOC) (e : ℕ) {R : Rows} → P k q f → Head P (nodeRow k q f l e ∷ R)
 
 -- so where there is one
 pub data Begins (P : ℕ → ℕ → ℕ → Type 0) : Rows → Type 0 where
-  begins : (k q f : ℕ) (l : LOC) {R : Rows} → P k q f → Begins P (row k q f l ∷ R)
+  begins : (k q f : ℕ) (l : LOC) (e : ℕ) {R : Rows} → P k q f → Begins P (nodeRow k q f l e ∷ R)
 
 pub weaker : {P Q : ℕ → ℕ → ℕ → Type 0} {R : Rows} → ((k q f : ℕ) → P k q f → Q k q f) → Head P R → Head Q R
 weaker h none-left = none-left
-weaker h (first k q f l x) = first k q f l (h k q f x)
+weaker h (first k q f l _ x) = first k q f l _ (h k q f x)
 
 abbrev pub After : ℕ → Rows → Type 0
 After n = Head (λ k q f. below n q ≡ false)
@@ -78,12 +78,12 @@ after-later n m h a = weaker (λ k q f e. below-later n m k q f h e) a
 pub after-forest : (ts : Forest) (q m k : ℕ) (R : Rows) → q < m → After q R → After m (unders ts q k R)
 unfolding unders under
 after-forest bare q m k R h a = after-later q m (omega arith) a
-after-forest (grown (node i f l w c us) ts) q m k R h a = first i q f l (below-parent m q h)
+after-forest (grown (node i f l w c us) ts) q m k R h a = first i q f l _ (below-parent m q h)
 
 -- definitions
-pub after-definition : (n k f : ℕ) (l : LOC) {R : Rows} → After n (row k noParent f l ∷ R)
+pub after-definition : (n k f : ℕ) (l : LOC) (e : ℕ) {R : Rows} → After n (nodeRow k noParent f l e ∷ R)
 unfolding noParent
-after-definition n k f l = first k 4294967295 f l (below-none n)
+after-definition n k f l e = first k 4294967295 f l _ (below-none n)
 
 -- ---- comments
 
@@ -127,19 +127,19 @@ mutual
 pub not-kind : (j : Job) {r : List Piece} {n : ℕ} {R C : Rows} {p : Cursor} {o : List ℕ} (i : ℕ) → 0 < i → Not i R → At j r n R C p o →
     eqb (kindAt (j .nodes) (j .count) (p .node)) i ≡ false
 not-kind j i h none-left a = rw (no-kind j a) (ne-eqb 0 i (λ e. omega (arith, e, h)))
-not-kind j i h (first k q f l x) a = rw (kind-is j k q f l a) x
+not-kind j i h (first k q f l _ x) a = rw (kind-is j k q f l _ a) x
 
 pub not-below : (j : Job) {r : List Piece} {n : ℕ} {R C : Rows} {p : Cursor} {o : List ℕ} (m : ℕ) → After m R → At j r n R C p o →
-    below m (parentAt (j .nodes) (j .count) (p .node)) ≡ false
+    below m (parentAt nodeWidth (j .nodes) (j .count) (p .node)) ≡ false
 not-below j m none-left a = rw (no-parent j a) (below-none m)
-not-below j m (first k q f l x) a = rw (parent-is j k q f l a) x
+not-below j m (first k q f l _ x) a = rw (parent-is j k q f l _ a) x
 
 pub not-parent : (j : Job) {r : List Piece} {n : ℕ} {R C : Rows} {p : Cursor} {o : List ℕ} (m : ℕ) → m < 4294967295 → After m R → At j r n R C p o →
-    eqb (parentAt (j .nodes) (j .count) (p .node)) m ≡ false
+    eqb (parentAt nodeWidth (j .nodes) (j .count) (p .node)) m ≡ false
 not-parent j m h b a =
     not-below-told m _ (not-below j m b a) (λ g. ne-eqb _ m (λ e. omega (arith, e, g))) (λ g. ne-eqb _ m (λ e. omega (arith, e, g, h)))
 
 pub not-noted : (j : Job) {r : List Piece} {n : ℕ} {R C : Rows} {p : Cursor} {o : List ℕ} (m : ℕ) → m < 4294967295 → Late (suc m) C → At j r n R C p o →
-    eqb (parentAt (j .comments) (j .total) (p .comment)) m ≡ false
+    eqb (parentAt commentWidth (j .comments) (j .total) (p .comment)) m ≡ false
 not-noted j m h no-note a = rw (no-note-parent j a) (ne-eqb 4294967295 m (λ e. omega (arith, e, h)))
 not-noted j m h (note k q f l x) a = rw (note-parent-is j k q f l a) (ne-eqb q m (λ e. omega (arith, e, x)))

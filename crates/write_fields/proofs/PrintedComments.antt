@@ -15,7 +15,8 @@ use Rattle.token.specs.Code.{is}
 use Rattle.token.specs.declared.Token.the-variants as Tok
 use Rattle.lexer.specs.Tokens.{Lexeme, lexeme}
 use Rattle.ast.specs.Lists.{All, acons}
-use Rattle.ast.specs.Records.{row, commentRow}
+use Rattle.ast.specs.Column as Col
+use Rattle.ast.specs.Records.{commentWidth, row, commentRow}
 use Rattle.parser.specs.Steps.{bytes, place}
 use Rattle.writer.specs.Print.{Piece, gap, note, line, bytesOf, writeComment, writeComments}
 use Rattle.cursor.specs.declared.Cursor.{Cursor}
@@ -39,15 +40,15 @@ module _ (j : Job) where
   -- a comment
   comment-printed : (i m n : ℕ) (x : Lexeme) (r : List Piece) (R C : Rows) (p : Cursor) (o : List ℕ) → Good (j .text) x →
       At j (gap (replicate i 32) ∷ writeComment x ∷ r) n R (commentRow m x ∷ C) p o → Got (At j r n R C) (commentOut (j .text) (j .comments) i p o)
-  unfolding commentOut commentRow writeComment bytesOf sayOut ascii bytes place row
+  unfolding commentOut commentRow writeComment bytesOf sayOut ascii bytes place row commentWidth
   comment-printed i m n (lexeme t w l) r R C p o g a =
-      rw (note-number-is j (cond (is t Tok.LineComment) 32 33) m 0 l 3 (omega arith) a, note-number-is j (cond (is t Tok.LineComment) 32 33) m 0 l 6 (omega arith) a)
+      rw (note-number-is j (cond (is t Tok.LineComment) 32 33) m 0 l Col.Start (omega arith) a, note-number-is j (cond (is t Tok.LineComment) 32 33) m 0 l Col.End (omega arith) a)
       (on (spaces-printed i n (note t w ∷ r) R _ p o a) λ p o a. on (puts-part j {r = line ∷ r} (lexeme t w l) (note t w ∷ r) (g .stands) refl a) λ p o a.
       on (puts j {r = r} (10 ∷ []) (line ∷ r) refl a) λ p o a. passes-note j (cond (is t Tok.LineComment) 32 33) m 0 l a)
 
   -- the first comment belongs to its node
   owner-is : (m n : ℕ) (x : Lexeme) (r : List Piece) (R C : Rows) (p : Cursor) (o : List ℕ) → At j r n R (commentRow m x ∷ C) p o →
-      eqb (parentAt (j .comments) (j .total) (p .comment)) m ≡ true
+      eqb (parentAt commentWidth (j .comments) (j .total) (p .comment)) m ≡ true
   unfolding commentRow
   owner-is m n (lexeme t w l) r R C p o a = eq-eqb _ m (note-parent-is j _ m 0 l a)
 

@@ -63,7 +63,8 @@ use Rattle.ast.specs.Tree.{
   requiredFlag,
   fieldTree,
 }
-use Rattle.ast.specs.Records.{noParent, row, size, sizes}
+use Rattle.ast.specs.Column as Col
+use Rattle.ast.specs.Records.{nodeWidth, noParent, nodeRow, size, sizes}
 use Rattle.parser.proofs.Lexemes.{EachOption, esome, EachType, EachValue, EachField, efield}
 use Rattle.writer.specs.Print.{
   Piece,
@@ -105,14 +106,14 @@ past-perhaps f (some x) ts n = omega arith
 -- the first row of a type, and of a value
 type-row : (t : FieldType) (q n : ℕ) (R : Rows) → Not 17 (under (typeTree t) q n R)
 unfolding typeTree leaf inner under
-type-row (CommonType (lexeme t w l)) q n R = first _ q 0 l (go (is t Tok.Identifier))
+type-row (CommonType (lexeme t w l)) q n R = first _ q 0 l _ (go (is t Tok.Identifier))
   where
     go : (b : Bool) → eqb (cond b 19 18) 17 ≡ false
     go true = refl
     go false = refl
-type-row (ListType l k t) q n R = first 20 q 0 l refl
-type-row (SetType l k t) q n R = first 21 q 0 l refl
-type-row (MapType l k a b) q n R = first 22 q 0 l refl
+type-row (ListType l k t) q n R = first 20 q 0 l _ refl
+type-row (SetType l k t) q n R = first 21 q 0 l _ refl
+type-row (MapType l k a b) q n R = first 22 q 0 l _ refl
 
 -- it is the owner's, and no annotations
 abbrev pub Assigned : ℕ → Rows → Type 0
@@ -132,13 +133,13 @@ literal-kind t = go (is t Tok.StringLiteral) (is t Tok.IntegerLiteral) (is t Tok
 
 pub literal-row : (t : Lexeme) (q n : ℕ) (R : Rows) → Assigned q (under (literalTree t) q n R)
 unfolding literalTree leaf under
-literal-row (lexeme t w l) q n R = begins _ q 0 l (refl, literal-kind t)
+literal-row (lexeme t w l) q n R = begins _ q 0 l _ (refl, literal-kind t)
 
 pub value-row : (v : FieldInitialValue) (q n : ℕ) (R : Rows) → Assigned q (under (valueTree v) q n R)
 unfolding valueTree inner under
 value-row (ConstValue t) q n R = literal-row t q n R
-value-row (ConstList l vs) q n R = begins 29 q 0 l (refl, refl)
-value-row (ConstMap l ps) q n R = begins 30 q 0 l (refl, refl)
+value-row (ConstList l vs) q n R = begins 29 q 0 l _ (refl, refl)
+value-row (ConstMap l ps) q n R = begins 30 q 0 l _ (refl, refl)
 
 -- what is written of what may be assigned
 unfoldable pub writeAssigned : {A : Type 0} → (A → List Piece → List Piece) → Option A → List Piece → List Piece
@@ -179,11 +180,11 @@ annotations-unnoted (annotations l xs) n C = annotation-unnoted xs (suc n) C
 -- so many rows, all below node m, and then others
 data Pass (m : ℕ) : ℕ → Rows → Rows → Type 0 where
   passed : {R : Rows} → Pass m 0 R R
-  one-more : (k q f : ℕ) (l : LOC) {d : ℕ} {X R : Rows} → below m q ≡ true → Pass m d X R → Pass m (suc d) (row k q f l ∷ X) R
+  one-more : (k q f : ℕ) (l : LOC) (e : ℕ) {d : ℕ} {X R : Rows} → below m q ≡ true → Pass m d X R → Pass m (suc d) (nodeRow k q f l e ∷ X) R
 
 pass-then : {m d e : ℕ} {X Y R : Rows} → Pass m d X Y → Pass m e Y R → Pass m (d + e) X R
 pass-then {e = e} passed y = let z : 0 + e ≡ e = omega arith in rw z y
-pass-then {e = e} (one-more k q f l {d = d} h x) y = let z : suc d + e ≡ suc (d + e) = omega arith in rw z (one-more k q f l h (pass-then x y))
+pass-then {e = e} (one-more k q f l _ {d = d} h x) y = let z : suc d + e ≡ suc (d + e) = omega arith in rw z (one-more k q f l _ h (pass-then x y))
 
 is-below : (m q : ℕ) → m ≤ q → q < 4294967295 → below m q ≡ true
 unfolding below noParent
@@ -194,7 +195,7 @@ mutual
 
   pass-tree : (t : Tree) (m q n : ℕ) (R : Rows) → m ≤ q → q < 4294967295 → m ≤ n → n + size t ≤ 4294967295 → Pass m (size t) (under t q n R) R
   pass-tree (node k f l w c ts) m q n R h g i u =
-      one-more k q f l (is-below m q h g) (pass-forest ts m n (suc n) R i (omega (arith, u)) (omega (arith, i)) (omega (arith, u)))
+      one-more k q f l _ (is-below m q h g) (pass-forest ts m n (suc n) R i (omega (arith, u)) (omega (arith, i)) (omega (arith, u)))
 
   pass-forest : (ts : Forest) (m q n : ℕ) (R : Rows) → m ≤ q → q < 4294967295 → m ≤ n → n + sizes ts ≤ 4294967295 → Pass m (sizes ts) (unders ts q n R) R
   pass-forest bare m q n R h g i u = passed
@@ -206,11 +207,11 @@ below-from : (j : Job) (m k : ℕ) {d n : ℕ} {r : List Piece} {X R C : Rows} {
     Got (At j r (n + d) R C) (passBelowFrom (j .nodes) (j .count) m k p o)
 unfolding passBelowFrom
 below-from j m zero {n = n} h passed b a = let e : n + 0 ≡ n = omega arith in rw e (got a)
-below-from j m zero h (one-more k q f l g x) b a = absurd (omega (arith, h))
+below-from j m zero h (one-more k q f l _ g x) b a = absurd (omega (arith, h))
 below-from j m (suc k) {n = n} h passed b a = let e : n + 0 ≡ n = omega arith in rw (e, not-below j m b a) (got a)
-below-from j m (suc k) {n = n} h (one-more i q f l {d = d} g x) b a =
+below-from j m (suc k) {n = n} h (one-more i q f l _ {d = d} g x) b a =
     let e : n + suc d ≡ suc n + d = omega arith in
-    rw (e, parent-is j i q f l a, g) (on (passes j i q f l a) λ p o a. below-from j m k (omega (arith, h)) x b a)
+    rw (e, parent-is j i q f l _ a, g) (on (passes j i q f l _ a) λ p o a. below-from j m k (omega (arith, h)) x b a)
 
 module _ (j : Job) where
   -- ---- id, requiredness
@@ -220,7 +221,7 @@ module _ (j : Job) where
       Got (At j r (n + size (idTree x)) (unders ts q (n + size (idTree x)) R) (noteds ts (n + size (idTree x)) C)) (idOut (j .text) (j .nodes) (j .count) p o)
   unfolding idOut idTree leaf unders under noteds sayOut ascii bytesOf
   some-id-printed (lexeme t w l) ts q n r R C p o g a =
-      rw (kind-is j 17 q 0 l a) (on (leaf-printed j 17 (lexeme t w l) q n (mark Tok.Colon 58 ∷ space ∷ r) _ _ p o g a) λ p o a. puts2 j _ (λ r. refl) a)
+      rw (kind-is j 17 q 0 l _ a) (on (leaf-printed j 17 (lexeme t w l) q n (mark Tok.Colon 58 ∷ space ∷ r) _ _ p o g a) λ p o a. puts2 j _ (λ r. refl) a)
 
   id-printed : (i : Option Lexeme) (ts : Forest) (q n : ℕ) (r : List Piece) (R C : Rows) (p : Cursor) (o : List ℕ) → EachOption (Good (j .text)) i → Not 17 (unders ts q n R) →
       At j (writeId i r) n (unders (perhaps idTree i ts) q n R) (noteds (perhaps idTree i ts) n C) p o →
@@ -254,13 +255,13 @@ module _ (j : Job) where
 
   has-value : {r : List Piece} {n : ℕ} {R C : Rows} {p : Cursor} {o : List ℕ} (q : ℕ) → Assigned q R → At j r n R C p o → hasValue (j .nodes) (j .count) q (p .node) ≡ true
   unfolding hasValue
-  has-value q (begins k q′ f l e) a = rw (parent-is j k q′ f l a, kind-is j k q′ f l a, eq-eqb q′ q (e .0), e .1)
+  has-value q (begins k q′ f l _ e) a = rw (parent-is j k q′ f l _ a, kind-is j k q′ f l _ a, eq-eqb q′ q (e .0), e .1)
 
   no-value : {r : List Piece} {n : ℕ} {R C : Rows} {p : Cursor} {o : List ℕ} (q : ℕ) (x : Annotations) → q < 4294967295 → After q R →
       At j r n (unders (annotationsTree x bare) q n R) C p o → hasValue (j .nodes) (j .count) q (p .node) ≡ false
   unfolding hasValue annotationsTree inner unders under
   no-value q absent h b a = rw (not-parent j q h b a)
-  no-value q (annotations l xs) h b a = rw (parent-is j 14 q 0 l a, kind-is j 14 q 0 l a, eq-eqb q q refl)
+  no-value q (annotations l xs) h b a = rw (parent-is j 14 q 0 l _ a, kind-is j 14 q 0 l _ a, eq-eqb q q refl)
 
   module _ {A : Type 0} (f : A → Tree) (value : W) (w : A → List Piece → List Piece) (G : A → Type 0)
       (step : (v : A) (q n : ℕ) (r : List Piece) (R C : Rows) (p : Cursor) (o : List ℕ) → G v → After n R →
@@ -338,9 +339,9 @@ module _ (j : Job) where
       )
 
   flags-of : {r : List Piece} {C : Rows} {p : Cursor} {o : List ℕ} (R : Rows) (l : LOC) (c : List Lexeme) (i : Option Lexeme) (y : Required) (t : FieldType) (m : Lexeme)
-      (v : Option FieldInitialValue) (x : Annotations) (q n : ℕ) → At j r n (under (fieldTree 0 (field l c i y t m v x)) q n R) C p o → numberAt (j .nodes) (p .node) 2 ≡ requiredFlag y + 0
+      (v : Option FieldInitialValue) (x : Annotations) (q n : ℕ) → At j r n (under (fieldTree 0 (field l c i y t m v x)) q n R) C p o → numberAt nodeWidth (j .nodes) (p .node) Col.Flags ≡ requiredFlag y + 0
   unfolding fieldTree under
-  flags-of R l c i y t m v x q n a = flags-are j 12 q (requiredFlag y + 0) l a
+  flags-of R l c i y t m v x q n a = flags-are j 12 q (requiredFlag y + 0) l _ a
 
   -- by its number and its flags
   field-by : (owner flags ind : ℕ) (l : LOC) (c : List Lexeme) (i : Option Lexeme) (y : Required) (t : FieldType) (m : Lexeme) (v : Option FieldInitialValue) (x : Annotations)
@@ -360,7 +361,7 @@ module _ (j : Job) where
       rw (eo, ef)
       (on (comments-printed j ind n n c _ _ _ p o few gc (late-forest ts (suc n) C (late-later (suc n + sizes ts) (n + suc (sizes ts)) (omega arith) late)) a) λ p o a.
       on (spaces-printed j ind n _ _ _ p o a) λ p o a.
-      on (passes j 12 q (requiredFlag y + 0) l a) λ p o a.
+      on (passes j 12 q (requiredFlag y + 0) l _ a) λ p o a.
       on (head-printed (requiredFlag y + 0) (writeRequired y) (λ n r R C p o a. required-printed y n r R C p o a) i t m v x n (suc n) _ R C p o gi gt gm gv few (omega arith) b a) λ p o a.
       on (annotations-printed j x n (headEnd i t m v (suc n)) _ R C p o gx few (before i t m v n) b a) λ p o a.
       rw (sym e) (puts2 j _ (λ r. refl) a))
@@ -370,7 +371,7 @@ module _ (j : Job) where
       Got (At j r (n + size (fieldTree 0 x)) R C) (fieldOut (j .text) (j .nodes) (j .count) (j .comments) (j .total) ind p o)
   unfolding fieldOut
   field-printed ind (field l c i y t m v x) q n r R C p o g b late a =
-      field-by (p .node) (numberAt (j .nodes) (p .node) 2) ind l c i y t m v x q n r R C p o (a .node) (flags-of R l c i y t m v x q n a) g b late a
+      field-by (p .node) (numberAt nodeWidth (j .nodes) (p .node) Col.Flags) ind l c i y t m v x q n r R C p o (a .node) (flags-of R l c i y t m v x q n a) g b late a
 
   -- ---- a parameter
 
@@ -390,7 +391,7 @@ module _ (j : Job) where
       let end = headEnd i t m v (suc n) in
       rw eo
       (on (comments-passed j n n c _ _ _ p o few (late-forest ts (suc n) C (late-later (suc n + sizes ts) (n + suc (sizes ts)) (omega arith) late)) a) λ p o a.
-      on (passes j 12 q (requiredFlag y + g) l a) λ p o a.
+      on (passes j 12 q (requiredFlag y + g) l _ a) λ p o a.
       on (head-printed 0 (λ r. r) (λ n r R C p o a. not-required n r R C p o a) i t m v x n (suc n) r R C p o gi gt gm gv few (omega arith) b a) λ p o a.
       rw (sym e)
       (below-from j n (j .count) (omega (arith, a .nodes-ahead .counts, unders-long (annotationsTree x bare) n end R))

@@ -39,7 +39,7 @@ module _ (j : Job) where
   unfolding leaf under unders noted noteds ownedBefore size sizes place
   leaf-printed k (lexeme t w l) q n r R C p o g a =
       let e : n + 1 ≡ suc n = omega arith in
-      rw e (prints-token j (lexeme t w l) k q 0 (g .stands) a)
+      rw e (prints-token j (lexeme t w l) k q 0 _ (g .stands) a)
 
   pub name-printed : (x : Lexeme) (q n : ℕ) (r : List Piece) (R C : Rows) (p : Cursor) (o : List ℕ) → Good (j .text) x →
       At j (own x ∷ r) n (under (nameTree x) q n R) (noted (nameTree x) n C) p o → Got (At j r (n + size (nameTree x)) R C) (tokenOut (j .text) (j .nodes) p o)

@@ -78,7 +78,7 @@ module _ (j : Job) where
     unfolding containerOut inner single under unders noted noteds ownedBefore size sizes sayOut ascii bytesOf
     container-printed v t ty i q n l r R C p o e g a =
         let m : suc n + size (typeTree ty) ≡ n + suc (size (typeTree ty) + 0) = omega arith in
-        on (passes j i q 0 l a) λ p o a. on (puts2 j _ (λ r. opened v t r e) a) λ p o a.
+        on (passes j i q 0 l _ a) λ p o a. on (puts2 j _ (λ r. opened v t r e) a) λ p o a.
         on (inside ty n (suc n) _ R C p o g a) λ p o a. rw (sym m) (puts1 j _ (λ r. refl) a)
 
     map-printed : (t : Lexeme) (ty tz : FieldType) (q n : ℕ) (l : LOC) (r : List Piece) (R C : Rows) (p : Cursor) (o : List ℕ) →
@@ -89,7 +89,7 @@ module _ (j : Job) where
     unfolding mapTypeOut inner both single under unders noted noteds ownedBefore size sizes sayOut ascii bytesOf
     map-printed t ty tz q n l r R C p o e g h a =
         let m : suc n + size (typeTree ty) + size (typeTree tz) ≡ n + suc (size (typeTree ty) + (size (typeTree tz) + 0)) = omega arith in
-        on (passes j 22 q 0 l a) λ p o a. on (puts2 j _ (λ r. opened (ascii "map") t r e) a) λ p o a.
+        on (passes j 22 q 0 l _ a) λ p o a. on (puts2 j _ (λ r. opened (ascii "map") t r e) a) λ p o a.
         on (inside ty n (suc n) _ _ _ p o g a) λ p o a. on (puts2 j _ (λ r. refl) a) λ p o a.
         on (inside tz n (suc n + size (typeTree ty)) _ R C p o h a) λ p o a. rw (sym m) (puts1 j _ (λ r. refl) a)
 
@@ -99,10 +99,10 @@ module _ (j : Job) where
   unfolding typeOut typeTree leaf inner writeType under ascii
   type-printed zero (CommonType x) q n r R C p o (ecommon g) a = common-printed x q n r R C p o g a
   type-printed (suc d) (CommonType (lexeme t w l)) q n r R C p o (ecommon g) a =
-      rw (kind-is j (cond (is t Tok.Identifier) 19 18) q 0 l a, not-container (is t Tok.Identifier)) (common-printed (lexeme t w l) q n r R C p o g a)
+      rw (kind-is j (cond (is t Tok.Identifier) 19 18) q 0 l _ a, not-container (is t Tok.Identifier)) (common-printed (lexeme t w l) q n r R C p o g a)
   type-printed (suc d) (ListType l k ty) q n r R C p o (elist w g) a =
-      rw (kind-is j 20 q 0 l a) (container-printed d (λ ty q n r R C p o g a. type-printed d ty q n r R C p o g a) (ascii "list") k ty 20 q n l r R C p o (list-is (j .text) w) g a)
+      rw (kind-is j 20 q 0 l _ a) (container-printed d (λ ty q n r R C p o g a. type-printed d ty q n r R C p o g a) (ascii "list") k ty 20 q n l r R C p o (list-is (j .text) w) g a)
   type-printed (suc d) (SetType l k ty) q n r R C p o (eset w g) a =
-      rw (kind-is j 21 q 0 l a) (container-printed d (λ ty q n r R C p o g a. type-printed d ty q n r R C p o g a) (ascii "set") k ty 21 q n l r R C p o (set-is (j .text) w) g a)
+      rw (kind-is j 21 q 0 l _ a) (container-printed d (λ ty q n r R C p o g a. type-printed d ty q n r R C p o g a) (ascii "set") k ty 21 q n l r R C p o (set-is (j .text) w) g a)
   type-printed (suc d) (MapType l k ty tz) q n r R C p o (emap w g h) a =
-      rw (kind-is j 22 q 0 l a) (map-printed d (λ ty q n r R C p o g a. type-printed d ty q n r R C p o g a) k ty tz q n l r R C p o (map-is (j .text) w) g h a)
+      rw (kind-is j 22 q 0 l _ a) (map-printed d (λ ty q n r R C p o g a. type-printed d ty q n r R C p o g a) k ty tz q n l r R C p o (map-is (j .text) w) g h a)

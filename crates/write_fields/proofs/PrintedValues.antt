@@ -52,7 +52,7 @@ use Rattle.ast.specs.Tree.{
   annotationTree,
   annotationsTree,
 }
-use Rattle.ast.specs.Records.{size, sizes}
+use Rattle.ast.specs.Records.{nodeWidth, size, sizes}
 use Rattle.parser.specs.Steps.{place}
 use Rattle.parser.proofs.Lexemes.{
   EachValue,
@@ -119,9 +119,9 @@ module _ (j : Job) where
 
   -- the next record is a child
   pub child-is : (t : Tree) (q n : ℕ) (r : List Piece) (R C : Rows) (p : Cursor) (o : List ℕ) → At j r n (under t q n R) C p o →
-      eqb (parentAt (j .nodes) (j .count) (p .node)) q ≡ true
+      eqb (parentAt nodeWidth (j .nodes) (j .count) (p .node)) q ≡ true
   unfolding under
-  child-is (node k f l w c ts) q n r R C p o a = eq-eqb _ q (parent-is j k q f l a)
+  child-is (node k f l w c ts) q n r R C p o a = eq-eqb _ q (parent-is j k q f l _ a)
 
   pub size-some : (t : Tree) → 0 < size t
   unfolding size
@@ -162,7 +162,7 @@ module _ (j : Job) where
       go w t =
           let m : suc n + sizes ts ≡ n + suc (sizes ts) = omega arith in
           rw t
-          (on (passes j i q 0 l a) λ p o a. on (puts j (ascii x) v e a) λ p o a.
+          (on (passes j i q 0 l _ a) λ p o a. on (puts j (ascii x) v e a) λ p o a.
           on (each-printed write n few s R C h (j .count) true ts u (suc n) p o g k (omega arith) a) λ p o a.
           rw (sym m) (puts j (ascii y) s f a))
 
@@ -191,7 +191,7 @@ module _ (j : Job) where
     unfolding propertyOut inner both single under unders noted noteds ownedBefore size sizes sayOut ascii bytesOf
     property-printed n l k v r g h m R C p o b e a =
         let w : suc m + size (valueTree k) + size (valueTree v) ≡ m + suc (size (valueTree k) + (size (valueTree v) + 0)) = omega arith in
-        on (passes j 31 n 0 l a) λ p o a.
+        on (passes j 31 n 0 l _ a) λ p o a.
         on (inside k m (suc m) _ _ _ p o g (after-forest (single (valueTree v)) m (suc m) (suc m + size (valueTree k)) R (omega arith) e) a) λ p o a.
         on (puts2 j _ (λ r. refl) a) λ p o a.
         rw (sym w) (inside v m (suc m + size (valueTree k)) r R C p o h (after-later m (suc m + size (valueTree k)) (omega arith) e) a)
@@ -219,16 +219,16 @@ module _ (j : Job) where
   value-printed zero (ConstValue x) q n r R C p o (eleaf g) b a = literal-printed j x q n r R C p o g a
   value-printed (suc d) (ConstValue (lexeme t w l)) q n r R C p o (eleaf g) b a =
       rw (
-        kind-is j (valueKind t) q 0 l a,
+        kind-is j (valueKind t) q 0 l _ a,
         not-nested (is t Tok.StringLiteral) (is t Tok.IntegerLiteral) (is t Tok.DoubleLiteral) (is t Tok.BooleanLiteral) (is t Tok.HexLiteral),
       )
       (literal-printed j (lexeme t w l) q n r R C p o g a)
   value-printed (suc d) (ConstList l vs) q n r R C p o (eseq g) b a =
-      rw (kind-is j 29 q 0 l a)
+      rw (kind-is j 29 q 0 l _ a)
       (brackets-printed _ "[" "]" 29 q n l (elementTrees vs) _ (writeElements vs (mark Tok.RightBracket 93 ∷ r)) (mark Tok.RightBracket 93 ∷ r) r
       R C p o refl refl (elements-shown d (λ v q n r R C p o g b a. value-printed d v q n r R C p o g b a) n _ vs g) b a)
   value-printed (suc d) (ConstMap l ps) q n r R C p o (edict g) b a =
-      rw (kind-is j 30 q 0 l a)
+      rw (kind-is j 30 q 0 l _ a)
       (brackets-printed _ "{" "}" 30 q n l (propertyTrees ps) _ (writeProperties ps (mark Tok.RightBrace 125 ∷ r)) (mark Tok.RightBrace 125 ∷ r) r
       R C p o refl refl (properties-shown d (λ v q n r R C p o g b a. value-printed d v q n r R C p o g b a) n _ ps g) b a)
 
@@ -240,7 +240,7 @@ module _ (j : Job) where
   annotation-printed n (annotation l (lexeme t w k) v) r (eannotation g h) m R C p o b e a =
       let i : suc (suc m) + size (literalTree v) ≡ m + suc (1 + (size (literalTree v) + 0)) = omega arith in
       let f : suc m + 1 ≡ suc (suc m) = omega arith in
-      on (passes j 15 n 0 l a) λ p o a. on (prints-token j (lexeme t w k) 16 m 0 (g .stands) a) λ p o a.
+      on (passes j 15 n 0 l _ a) λ p o a. on (prints-token j (lexeme t w k) 16 m 0 _ (g .stands) a) λ p o a.
       on (puts3 j _ (λ r. refl) a) λ p o a. rw (sym i) (literal-printed j v m (suc (suc m)) r R C p o h (rw f at a))
 
   annotations-shown : (n : ℕ) (r : List Piece) (b : Bool) (xs : List Annotation) → All (EachAnnotation (Good (j .text))) xs →
@@ -260,6 +260,6 @@ module _ (j : Job) where
   annotations-printed absent q n r R C p o eabsent few h b a = rw (not-parent j q few b a) (got (moved j (n + 0) (omega arith) a))
   annotations-printed (annotations l xs) q n r R C p o (eannotations g) few h b a =
       let e : n + size (inner 14 l (each annotationTree xs bare)) ≡ n + (size (inner 14 l (each annotationTree xs bare)) + 0) = omega arith in
-      rw (eq-eqb _ q (parent-is j 14 q 0 l a), kind-is j 14 q 0 l a, sym e)
+      rw (eq-eqb _ q (parent-is j 14 q 0 l _ a), kind-is j 14 q 0 l _ a, sym e)
       (brackets-printed _ " (" ")" 14 q n l (each annotationTree xs bare) _ (writeEach commas writeAnnotation xs (mark Tok.RightParen 41 ∷ r))
       (mark Tok.RightParen 41 ∷ r) r R C p o refl refl (annotations-shown n _ true xs g) (after-later q n (omega (arith, h)) b) a)

@@ -10,6 +10,8 @@ use Prim.Native.Nat.{ℕ, zero, suc, _-_, _<_, _≤_}
 use native.Mathlib.Omega.{arith}
 use lib.Dec.{eqb}
 use lib.ListN.{length}
+use Rattle.ast.specs.Column as Col
+use Rattle.ast.specs.Records.{nodeWidth}
 use Rattle.cursor.specs.declared.Cursor.{Cursor}
 use Rattle.cursor.specs.Onto.{Reached, W, _⨟_, reached, kindAt, numberAt, parentAt, then}
 use Rattle.write_fields.specs.Onto.{commaOut, eachOut, isOf, paramOut, paramsFrom, paramsOut}
@@ -28,13 +30,13 @@ one-less F n = ap F (omega arith)
 
 module _ (Z : Reached) (nodes : List ℕ) (count owner : ℕ) (write : W) (first : Bool) where
   pub each-turn : (n : ℕ) (p : Cursor) (o : List ℕ) → Z ≡ eachOut nodes count owner write first n p o → 0 < n → Z ≡
-      cond (eqb (parentAt nodes count (p .node)) owner) (then (commaOut first p o) (write ⨟ eachOut nodes count owner write false (n - 1))) (reached p o)
+      cond (eqb (parentAt nodeWidth nodes count (p .node)) owner) (then (commaOut first p o) (write ⨟ eachOut nodes count owner write false (n - 1))) (reached p o)
   unfolding eachOut
   each-turn zero p o v h = absurd (omega arith)
   each-turn (suc n) p o v h =
       v
       ∙ one-less
-      (λ x. cond (eqb (parentAt nodes count (p .node)) owner) (then (commaOut first p o) (write ⨟ eachOut nodes count owner write false x)) (reached p o))
+      (λ x. cond (eqb (parentAt nodeWidth nodes count (p .node)) owner) (then (commaOut first p o) (write ⨟ eachOut nodes count owner write false x)) (reached p o))
       n
 
   pub each-over : (n : ℕ) (p : Cursor) (o : List ℕ) → Z ≡ eachOut nodes count owner write first n p o → n ≤ 0 → Z ≡ reached p o
@@ -52,7 +54,7 @@ params-is text nodes count comments total thrown p o = refl
 module _ (Z : Reached) (text nodes : List ℕ) (count : ℕ) (comments : List ℕ) (total : ℕ) (thrown first : Bool) where
   pub params-turn : (n : ℕ) (p : Cursor) (o : List ℕ) → Z ≡ paramsFrom text nodes count comments total thrown first n p o → 0 < n → Z ≡
       cond (eqb (kindAt nodes count (p .node)) 12)
-      (cond (isOf thrown (numberAt nodes (p .node) 2))
+      (cond (isOf thrown (numberAt nodeWidth nodes (p .node) Col.Flags))
       (then (commaOut first p o) (paramOut text nodes count comments total ⨟ paramsFrom text nodes count comments total thrown false (n - 1)))
       (reached p o))
       (reached p o)
@@ -62,7 +64,7 @@ module _ (Z : Reached) (text nodes : List ℕ) (count : ℕ) (comments : List �
       v
       ∙ one-less
       (λ x. cond (eqb (kindAt nodes count (p .node)) 12)
-      (cond (isOf thrown (numberAt nodes (p .node) 2))
+      (cond (isOf thrown (numberAt nodeWidth nodes (p .node) Col.Flags))
       (then (commaOut first p o) (paramOut text nodes count comments total ⨟ paramsFrom text nodes count comments total thrown false x))
       (reached p o))
       (reached p o))

@@ -10,6 +10,8 @@ use native.Mathlib.Omega.{arith}
 use lib.Dec.{eqb}
 use borrow.Author.Tests.{eq-eqb, ne-eqb, lt-ltb, le-ltb}
 use Rattle.token.specs.Regex.{bytes as ascii}
+use Rattle.ast.specs.Column as Col
+use Rattle.ast.specs.Records.{nodeWidth}
 use Rattle.cursor.specs.declared.Cursor.{Cursor}
 use Rattle.cursor.specs.Onto.{Reached, W, _⨟_, commentsOut, reached, kindAt, numberAt, parentAt, passBelow, passComments, passNode, putOut, sayOut, spacesOut, stay, then, tokenOut}
 use Rattle.write_fields.specs.Onto.{annotationOut, annotationsOut, assignedOut, bracketsOut, commaOut, containerOut, eachOut, fieldHeadOut, fieldOut, hasValue, idOut, isOf, mapTypeOut, paramOut, propertyOut, requiredOut, typedNameOut, typeOut, valueOut}
@@ -115,7 +117,7 @@ unfolding annotationOut sayOut ascii
 annotation-is text nodes p o = refl
 
 pub annotations-is : (text nodes : List ℕ) (count owner : ℕ) (p : Cursor) (o : List ℕ) → annotationsOut text nodes count owner p o ≡
-    cond (eqb (parentAt nodes count (p .node)) owner)
+    cond (eqb (parentAt nodeWidth nodes count (p .node)) owner)
     (cond (eqb (kindAt nodes count (p .node)) 14)
     (then (passNode p o) (putOut (32 ∷ 40 ∷ []) ⨟ (eachOut nodes count (p .node) (annotationOut text nodes) true count ⨟ putOut (41 ∷ []))))
     (reached p o))
@@ -123,7 +125,7 @@ pub annotations-is : (text nodes : List ℕ) (count owner : ℕ) (p : Cursor) (o
 unfolding annotationsOut bracketsOut sayOut ascii
 annotations-is text nodes count owner p o = refl
 
-pub annotations-none : (text nodes : List ℕ) (count owner : ℕ) (p : Cursor) (o : List ℕ) {x : ℕ} → x ≡ parentAt nodes count (p .node) → (x ≡ owner → ⊥) →
+pub annotations-none : (text nodes : List ℕ) (count owner : ℕ) (p : Cursor) (o : List ℕ) {x : ℕ} → x ≡ parentAt nodeWidth nodes count (p .node) → (x ≡ owner → ⊥) →
     reached p o ≡ annotationsOut text nodes count owner p o
 unfolding annotationsOut
 annotations-none text nodes count owner p o {x} e h = rw (sym e, ne-eqb x owner h)
@@ -142,16 +144,16 @@ pub required-is : (f : ℕ) (p : Cursor) (o : List ℕ) → requiredOut f p o �
 unfolding requiredOut sayOut ascii
 required-is f p o = refl
 
-pub no-value : (nodes : List ℕ) (count owner n : ℕ) {x : ℕ} → x ≡ parentAt nodes count n → (x ≡ owner → ⊥) → false ≡ hasValue nodes count owner n
+pub no-value : (nodes : List ℕ) (count owner n : ℕ) {x : ℕ} → x ≡ parentAt nodeWidth nodes count n → (x ≡ owner → ⊥) → false ≡ hasValue nodes count owner n
 unfolding hasValue
 no-value nodes count owner n {x} e h =
     sym (ap (λ (b : Bool). cond b (cond (eqb (kindAt nodes count n) 14) false true) false) (ap (λ (y : ℕ). eqb y owner) (sym e) ∙ ne-eqb x owner h))
 
-pub value-unless : (nodes : List ℕ) (count owner n : ℕ) {x y : ℕ} → x ≡ parentAt nodes count n → x ≡ owner → y ≡ kindAt nodes count n →
+pub value-unless : (nodes : List ℕ) (count owner n : ℕ) {x y : ℕ} → x ≡ parentAt nodeWidth nodes count n → x ≡ owner → y ≡ kindAt nodes count n →
     not (eqb y 14) ≡ hasValue nodes count owner n
 unfolding hasValue
 value-unless nodes count owner n {x} {y} e h k =
-    let is : eqb (parentAt nodes count n) owner ≡ true = ap (λ (z : ℕ). eqb z owner) (sym e) ∙ eq-eqb x owner h in
+    let is : eqb (parentAt nodeWidth nodes count n) owner ≡ true = ap (λ (z : ℕ). eqb z owner) (sym e) ∙ eq-eqb x owner h in
     negation (eqb y 14)
     ∙ ap (λ (z : ℕ). cond (eqb z 14) false true) k
     ∙ sym (ap (λ (b : Bool). cond b (cond (eqb (kindAt nodes count n) 14) false true) false) is)
@@ -178,7 +180,7 @@ field-head-is text nodes count owner f p o = refl
 
 -- f: the flags of the node ahead
 pub field-is : (text nodes : List ℕ) (count : ℕ) (comments : List ℕ) (total indent : ℕ) (p : Cursor) (o : List ℕ) {f : ℕ} →
-    f ≡ numberAt nodes (p .node) 2 → fieldOut text nodes count comments total indent p o ≡
+    f ≡ numberAt nodeWidth nodes (p .node) Col.Flags → fieldOut text nodes count comments total indent p o ≡
     then (commentsOut text comments total (p .node) indent p o)
     (spacesOut indent
     ⨟ (passNode ⨟ (fieldHeadOut text nodes count (p .node) f ⨟ (annotationsOut text nodes count (p .node) ⨟ putOut (44 ∷ 10 ∷ [])))))

@@ -9,6 +9,7 @@ use Rattle.token.specs.Regex.{bytes as ascii}
 use Rattle.parser.specs.Definitions.{nesting}
 use Rattle.ast.specs.Column as C
 use Rattle.ast.specs.Kind as K
+use Rattle.ast.specs.Records.{nodeWidth}
 use Rattle.cursor.specs.Onto.{reached, W, then, _⨟_, numberAt, kindAt, parentAt, passNode, stay, putOut, sayOut, tokenOut, spacesOut, commentsOut, passComments, passBelow}
 
 -- ---- types and values
@@ -37,7 +38,7 @@ commaOut false = sayOut ", "
 unfoldable pub eachOut : List ℕ → ℕ → ℕ → W → Bool → ℕ → W
 eachOut nodes count owner write first zero p o = reached p o
 eachOut nodes count owner write first (suc n) p o =
-    cond (eqb (parentAt nodes count (p .node)) owner) ((commaOut first ⨟ (write ⨟ eachOut nodes count owner write false n)) p o) (reached p o)
+    cond (eqb (parentAt nodeWidth nodes count (p .node)) owner) ((commaOut first ⨟ (write ⨟ eachOut nodes count owner write false n)) p o) (reached p o)
 
 unfoldable pub propertyOut : W → W
 propertyOut value = passNode ⨟ (value ⨟ (sayOut ": " ⨟ value))
@@ -62,7 +63,7 @@ annotationOut text nodes = passNode ⨟ (tokenOut text nodes ⨟ (sayOut " = " �
 -- is the next node the owner's, and of this kind?
 unfoldable pub annotationsOut : List ℕ → List ℕ → ℕ → ℕ → W
 annotationsOut text nodes count owner p o =
-    cond (eqb (parentAt nodes count (p .node)) owner)
+    cond (eqb (parentAt nodeWidth nodes count (p .node)) owner)
     (cond (eqb (kindAt nodes count (p .node)) K.Annotations)
     (bracketsOut nodes count " (" ")" (annotationOut text nodes) p o)
     (reached p o))
@@ -78,7 +79,7 @@ requiredOut f p o = cond (eqb f K.Required) (sayOut "required " p o) (cond (eqb 
 
 -- ` = ` and what follows it, if the next node is the owner's and no annotations
 unfoldable pub hasValue : List ℕ → ℕ → ℕ → ℕ → Bool
-hasValue nodes count owner n = cond (eqb (parentAt nodes count n) owner) (cond (eqb (kindAt nodes count n) K.Annotations) false true) false
+hasValue nodes count owner n = cond (eqb (parentAt nodeWidth nodes count n) owner) (cond (eqb (kindAt nodes count n) K.Annotations) false true) false
 
 unfoldable pub assignedOut : List ℕ → ℕ → ℕ → W → W
 assignedOut nodes count owner value p o = cond (hasValue nodes count owner (p .node)) ((sayOut " = " ⨟ value) p o) (reached p o)
@@ -95,7 +96,7 @@ unfoldable pub fieldOut : List ℕ → List ℕ → ℕ → List ℕ → ℕ →
 fieldOut text nodes count comments total indent p o =
     then (commentsOut text comments total (p .node) indent p o)
     (spacesOut indent
-    ⨟ (passNode ⨟ (fieldHeadOut text nodes count (p .node) (numberAt nodes (p .node) C.Flags) ⨟ (annotationsOut text nodes count (p .node) ⨟ sayOut ",\n"))))
+    ⨟ (passNode ⨟ (fieldHeadOut text nodes count (p .node) (numberAt nodeWidth nodes (p .node) C.Flags) ⨟ (annotationsOut text nodes count (p .node) ⨟ sayOut ",\n"))))
 
 unfoldable pub paramOut : List ℕ → List ℕ → ℕ → List ℕ → ℕ → W
 paramOut text nodes count comments total p o =
@@ -110,7 +111,7 @@ unfoldable pub paramsFrom : List ℕ → List ℕ → ℕ → List ℕ → ℕ �
 paramsFrom text nodes count comments total thrown first zero p o = reached p o
 paramsFrom text nodes count comments total thrown first (suc n) p o =
     cond (eqb (kindAt nodes count (p .node)) K.Field)
-    (cond (isOf thrown (numberAt nodes (p .node) C.Flags))
+    (cond (isOf thrown (numberAt nodeWidth nodes (p .node) C.Flags))
     ((commaOut first ⨟ (paramOut text nodes count comments total ⨟ paramsFrom text nodes count comments total thrown false n)) p o)
     (reached p o))
     (reached p o)

@@ -1,11 +1,11 @@
 // The print of types, values, annotations, fields and parameters: rico's writer/types.rs, values.rs and common.rs.
 ghost use mathlib.Core.Path.{_≡_};
 ghost use mathlib.Core.Bool.{true};
-ghost use Rattle.ast.specs.Records.{room};
+ghost use Rattle.ast.specs.Records.{commentWidth, nodeWidth, room};
 ghost use Rattle.cursor.specs.Onto.{Writes, tokenOut};
 ghost use Rattle.parser.specs.Definitions.{nesting};
 ghost use Rattle.write_fields.specs.Onto.{containerOut, mapTypeOut, typeOut, commaOut, eachOut, propertyOut, bracketsOut, valueOut, annotationOut, annotationsOut, idOut, requiredOut, hasValue, assignedOut, typedNameOut, fieldHeadOut, fieldOut, paramOut, isOf, paramsOut};
-use ast::WIDTH;
+use ast::NODE_WIDTH;
 use ast::column;
 use ast::flag;
 use cursor::Cursor;
@@ -20,7 +20,7 @@ fn write_container(
     word: &[u8],
     depth: u32,
 ) -> Cursor
-    ensures { λ r. ⌜ Writes (containerOut (now (word .entry)) (typeOut (now (text .entry)) (now (nodes .entry)) (room (now (nodes .entry))) depth)) at r (now (out .entry)) (now (out .exit)) ⌝ }
+    ensures { λ r. ⌜ Writes (containerOut (now (word .entry)) (typeOut (now (text .entry)) (now (nodes .entry)) (room nodeWidth (now (nodes .entry))) depth)) at r (now (out .entry)) (now (out .exit)) ⌝ }
 {
     let opened = cursor::put(out, cursor::pass_node(at), word);
     let inner = write_type(text, nodes, out, opened, depth);
@@ -29,7 +29,7 @@ fn write_container(
 
 // map<, both types, >
 fn write_map_type(text: &[u8], nodes: &[u32], out: &mut [u8], at: Cursor, depth: u32) -> Cursor
-    ensures { λ r. ⌜ Writes (mapTypeOut (typeOut (now (text .entry)) (now (nodes .entry)) (room (now (nodes .entry))) depth)) at r (now (out .entry)) (now (out .exit)) ⌝ }
+    ensures { λ r. ⌜ Writes (mapTypeOut (typeOut (now (text .entry)) (now (nodes .entry)) (room nodeWidth (now (nodes .entry))) depth)) at r (now (out .entry)) (now (out .exit)) ⌝ }
 {
     let opened = cursor::put(out, cursor::pass_node(at), b"map<");
     let key = write_type(text, nodes, out, opened, depth);
@@ -40,7 +40,7 @@ fn write_map_type(text: &[u8], nodes: &[u32], out: &mut [u8], at: Cursor, depth:
 
 // write_field_type, with `depth` containers left
 fn write_type(text: &[u8], nodes: &[u32], out: &mut [u8], at: Cursor, depth: u32) -> Cursor
-    ensures { λ r. ⌜ Writes (typeOut (now (text .entry)) (now (nodes .entry)) (room (now (nodes .entry))) depth) at r (now (out .entry)) (now (out .exit)) ⌝ }
+    ensures { λ r. ⌜ Writes (typeOut (now (text .entry)) (now (nodes .entry)) (room nodeWidth (now (nodes .entry))) depth) at r (now (out .entry)) (now (out .exit)) ⌝ }
 {
     if depth == 0 {
         return cursor::put_token(text, nodes, out, at);
@@ -70,7 +70,7 @@ fn put_comma(out: &mut [u8], at: Cursor, first: bool) -> Cursor
 
 // write_field_value, with `depth` containers left
 pub fn write_value(text: &[u8], nodes: &[u32], out: &mut [u8], at: Cursor, depth: u32) -> Cursor
-    ensures { λ r. ⌜ Writes (valueOut (now (text .entry)) (now (nodes .entry)) (room (now (nodes .entry))) depth) at r (now (out .entry)) (now (out .exit)) ⌝ }
+    ensures { λ r. ⌜ Writes (valueOut (now (text .entry)) (now (nodes .entry)) (room nodeWidth (now (nodes .entry))) depth) at r (now (out .entry)) (now (out .exit)) ⌝ }
 {
     if depth == 0 {
         return cursor::put_token(text, nodes, out, at);
@@ -87,7 +87,7 @@ pub fn write_value(text: &[u8], nodes: &[u32], out: &mut [u8], at: Cursor, depth
 
 // [, the elements, ]
 fn write_list(text: &[u8], nodes: &[u32], out: &mut [u8], at: Cursor, depth: u32) -> Cursor
-    ensures { λ r. ⌜ Writes (bracketsOut (now (nodes .entry)) (room (now (nodes .entry))) "[" "]" (valueOut (now (text .entry)) (now (nodes .entry)) (room (now (nodes .entry))) depth)) at r (now (out .entry)) (now (out .exit)) ⌝ }
+    ensures { λ r. ⌜ Writes (bracketsOut (now (nodes .entry)) (room nodeWidth (now (nodes .entry))) "[" "]" (valueOut (now (text .entry)) (now (nodes .entry)) (room nodeWidth (now (nodes .entry))) depth)) at r (now (out .entry)) (now (out .exit)) ⌝ }
 {
     let opened = cursor::put(out, cursor::pass_node(at), b"[");
     let inner = write_elements(text, nodes, out, opened, at.node, depth);
@@ -96,7 +96,7 @@ fn write_list(text: &[u8], nodes: &[u32], out: &mut [u8], at: Cursor, depth: u32
 
 // an element or a default; most are one token
 fn write_element(text: &[u8], nodes: &[u32], out: &mut [u8], at: Cursor, depth: u32) -> Cursor
-    ensures { λ r. ⌜ Writes (valueOut (now (text .entry)) (now (nodes .entry)) (room (now (nodes .entry))) depth) at r (now (out .entry)) (now (out .exit)) ⌝ }
+    ensures { λ r. ⌜ Writes (valueOut (now (text .entry)) (now (nodes .entry)) (room nodeWidth (now (nodes .entry))) depth) at r (now (out .entry)) (now (out .exit)) ⌝ }
 {
     if cursor::kind_at(nodes, at.node) < ast::kind::LIST_VALUE {
         return cursor::put_token(text, nodes, out, at);
@@ -112,11 +112,11 @@ fn write_elements(
     owner: u32,
     depth: u32,
 ) -> Cursor
-    ensures { λ r. ⌜ Writes (eachOut (now (nodes .entry)) (room (now (nodes .entry))) owner (valueOut (now (text .entry)) (now (nodes .entry)) (room (now (nodes .entry))) depth) true (room (now (nodes .entry)))) at r (now (out .entry)) (now (out .exit)) ⌝ }
+    ensures { λ r. ⌜ Writes (eachOut (now (nodes .entry)) (room nodeWidth (now (nodes .entry))) owner (valueOut (now (text .entry)) (now (nodes .entry)) (room nodeWidth (now (nodes .entry))) depth) true (room nodeWidth (now (nodes .entry)))) at r (now (out .entry)) (now (out .exit)) ⌝ }
 {
     let mut now = at;
     let mut first = true;
-    let mut left = nodes.len() / WIDTH;
+    let mut left = nodes.len() / NODE_WIDTH;
     while 0 < left {
         if cursor::parent_at(nodes, now.node) != owner {
             return now;
@@ -131,7 +131,7 @@ fn write_elements(
 
 // {, the properties, }
 fn write_map(text: &[u8], nodes: &[u32], out: &mut [u8], at: Cursor, depth: u32) -> Cursor
-    ensures { λ r. ⌜ Writes (bracketsOut (now (nodes .entry)) (room (now (nodes .entry))) "{" "}" (propertyOut (valueOut (now (text .entry)) (now (nodes .entry)) (room (now (nodes .entry))) depth))) at r (now (out .entry)) (now (out .exit)) ⌝ }
+    ensures { λ r. ⌜ Writes (bracketsOut (now (nodes .entry)) (room nodeWidth (now (nodes .entry))) "{" "}" (propertyOut (valueOut (now (text .entry)) (now (nodes .entry)) (room nodeWidth (now (nodes .entry))) depth))) at r (now (out .entry)) (now (out .exit)) ⌝ }
 {
     let opened = cursor::put(out, cursor::pass_node(at), b"{");
     let inner = write_properties(text, nodes, out, opened, at.node, depth);
@@ -146,11 +146,11 @@ fn write_properties(
     owner: u32,
     depth: u32,
 ) -> Cursor
-    ensures { λ r. ⌜ Writes (eachOut (now (nodes .entry)) (room (now (nodes .entry))) owner (propertyOut (valueOut (now (text .entry)) (now (nodes .entry)) (room (now (nodes .entry))) depth)) true (room (now (nodes .entry)))) at r (now (out .entry)) (now (out .exit)) ⌝ }
+    ensures { λ r. ⌜ Writes (eachOut (now (nodes .entry)) (room nodeWidth (now (nodes .entry))) owner (propertyOut (valueOut (now (text .entry)) (now (nodes .entry)) (room nodeWidth (now (nodes .entry))) depth)) true (room nodeWidth (now (nodes .entry)))) at r (now (out .entry)) (now (out .exit)) ⌝ }
 {
     let mut now = at;
     let mut first = true;
-    let mut left = nodes.len() / WIDTH;
+    let mut left = nodes.len() / NODE_WIDTH;
     while 0 < left {
         if cursor::parent_at(nodes, now.node) != owner {
             return now;
@@ -164,7 +164,7 @@ fn write_properties(
 }
 
 fn write_property(text: &[u8], nodes: &[u32], out: &mut [u8], at: Cursor, depth: u32) -> Cursor
-    ensures { λ r. ⌜ Writes (propertyOut (valueOut (now (text .entry)) (now (nodes .entry)) (room (now (nodes .entry))) depth)) at r (now (out .entry)) (now (out .exit)) ⌝ }
+    ensures { λ r. ⌜ Writes (propertyOut (valueOut (now (text .entry)) (now (nodes .entry)) (room nodeWidth (now (nodes .entry))) depth)) at r (now (out .entry)) (now (out .exit)) ⌝ }
 {
     let key = write_value(text, nodes, out, cursor::pass_node(at), depth);
     let colon = cursor::put(out, key, b": ");
@@ -187,11 +187,11 @@ fn write_annotation_list(
     at: Cursor,
     owner: u32,
 ) -> Cursor
-    ensures { λ r. ⌜ Writes (eachOut (now (nodes .entry)) (room (now (nodes .entry))) owner (annotationOut (now (text .entry)) (now (nodes .entry))) true (room (now (nodes .entry)))) at r (now (out .entry)) (now (out .exit)) ⌝ }
+    ensures { λ r. ⌜ Writes (eachOut (now (nodes .entry)) (room nodeWidth (now (nodes .entry))) owner (annotationOut (now (text .entry)) (now (nodes .entry))) true (room nodeWidth (now (nodes .entry)))) at r (now (out .entry)) (now (out .exit)) ⌝ }
 {
     let mut now = at;
     let mut first = true;
-    let mut left = nodes.len() / WIDTH;
+    let mut left = nodes.len() / NODE_WIDTH;
     while 0 < left {
         if cursor::parent_at(nodes, now.node) != owner {
             return now;
@@ -212,7 +212,7 @@ pub fn write_annotations(
     at: Cursor,
     owner: u32,
 ) -> Cursor
-    ensures { λ r. ⌜ Writes (annotationsOut (now (text .entry)) (now (nodes .entry)) (room (now (nodes .entry))) owner) at r (now (out .entry)) (now (out .exit)) ⌝ }
+    ensures { λ r. ⌜ Writes (annotationsOut (now (text .entry)) (now (nodes .entry)) (room nodeWidth (now (nodes .entry))) owner) at r (now (out .entry)) (now (out .exit)) ⌝ }
 {
     if cursor::parent_at(nodes, at.node) != owner {
         return at;
@@ -227,7 +227,7 @@ pub fn write_annotations(
 
 // an id and `: `, if the next node is one
 fn write_id(text: &[u8], nodes: &[u32], out: &mut [u8], at: Cursor) -> Cursor
-    ensures { λ r. ⌜ Writes (idOut (now (text .entry)) (now (nodes .entry)) (room (now (nodes .entry)))) at r (now (out .entry)) (now (out .exit)) ⌝ }
+    ensures { λ r. ⌜ Writes (idOut (now (text .entry)) (now (nodes .entry)) (room nodeWidth (now (nodes .entry)))) at r (now (out .entry)) (now (out .exit)) ⌝ }
 {
     if cursor::kind_at(nodes, at.node) != ast::kind::FIELD_ID {
         return at;
@@ -250,7 +250,7 @@ fn write_required(out: &mut [u8], at: Cursor, flags: u32) -> Cursor
 
 // whether the owner's next node is a value
 fn has_value(nodes: &[u32], at: Cursor, owner: u32) -> bool
-    ensures { λ r. ⌜ r ≡ hasValue (now (nodes .entry)) (room (now (nodes .entry))) owner (at .node) ⌝ }
+    ensures { λ r. ⌜ r ≡ hasValue (now (nodes .entry)) (room nodeWidth (now (nodes .entry))) owner (at .node) ⌝ }
 {
     if cursor::parent_at(nodes, at.node) != owner {
         return false;
@@ -260,7 +260,7 @@ fn has_value(nodes: &[u32], at: Cursor, owner: u32) -> bool
 
 // ` = ` and a value, if the owner has one
 fn write_default(text: &[u8], nodes: &[u32], out: &mut [u8], at: Cursor, owner: u32) -> Cursor
-    ensures { λ r. ⌜ Writes (assignedOut (now (nodes .entry)) (room (now (nodes .entry))) owner (valueOut (now (text .entry)) (now (nodes .entry)) (room (now (nodes .entry))) nesting)) at r (now (out .entry)) (now (out .exit)) ⌝ }
+    ensures { λ r. ⌜ Writes (assignedOut (now (nodes .entry)) (room nodeWidth (now (nodes .entry))) owner (valueOut (now (text .entry)) (now (nodes .entry)) (room nodeWidth (now (nodes .entry))) nesting)) at r (now (out .entry)) (now (out .exit)) ⌝ }
 {
     if !has_value(nodes, at, owner) {
         return at;
@@ -277,7 +277,7 @@ pub fn write_initializer(
     at: Cursor,
     owner: u32,
 ) -> Cursor
-    ensures { λ r. ⌜ Writes (assignedOut (now (nodes .entry)) (room (now (nodes .entry))) owner (tokenOut (now (text .entry)) (now (nodes .entry)))) at r (now (out .entry)) (now (out .exit)) ⌝ }
+    ensures { λ r. ⌜ Writes (assignedOut (now (nodes .entry)) (room nodeWidth (now (nodes .entry))) owner (tokenOut (now (text .entry)) (now (nodes .entry)))) at r (now (out .entry)) (now (out .exit)) ⌝ }
 {
     if !has_value(nodes, at, owner) {
         return at;
@@ -288,7 +288,7 @@ pub fn write_initializer(
 
 // a type that stands in no container; most are one token
 fn write_outer_type(text: &[u8], nodes: &[u32], out: &mut [u8], at: Cursor) -> Cursor
-    ensures { λ r. ⌜ Writes (typeOut (now (text .entry)) (now (nodes .entry)) (room (now (nodes .entry))) nesting) at r (now (out .entry)) (now (out .exit)) ⌝ }
+    ensures { λ r. ⌜ Writes (typeOut (now (text .entry)) (now (nodes .entry)) (room nodeWidth (now (nodes .entry))) nesting) at r (now (out .entry)) (now (out .exit)) ⌝ }
 {
     if cursor::kind_at(nodes, at.node) < ast::kind::LIST {
         return cursor::put_token(text, nodes, out, at);
@@ -298,7 +298,7 @@ fn write_outer_type(text: &[u8], nodes: &[u32], out: &mut [u8], at: Cursor) -> C
 
 // a type, a space, a name
 pub fn write_typed_name(text: &[u8], nodes: &[u32], out: &mut [u8], at: Cursor) -> Cursor
-    ensures { λ r. ⌜ Writes (typedNameOut (now (text .entry)) (now (nodes .entry)) (room (now (nodes .entry)))) at r (now (out .entry)) (now (out .exit)) ⌝ }
+    ensures { λ r. ⌜ Writes (typedNameOut (now (text .entry)) (now (nodes .entry)) (room nodeWidth (now (nodes .entry)))) at r (now (out .entry)) (now (out .exit)) ⌝ }
 {
     let typed = write_outer_type(text, nodes, out, at);
     let parted = cursor::put(out, typed, b" ");
@@ -314,7 +314,7 @@ fn write_field_head(
     owner: u32,
     flags: u32,
 ) -> Cursor
-    ensures { λ r. ⌜ Writes (fieldHeadOut (now (text .entry)) (now (nodes .entry)) (room (now (nodes .entry))) owner flags) at r (now (out .entry)) (now (out .exit)) ⌝ }
+    ensures { λ r. ⌜ Writes (fieldHeadOut (now (text .entry)) (now (nodes .entry)) (room nodeWidth (now (nodes .entry))) owner flags) at r (now (out .entry)) (now (out .exit)) ⌝ }
 {
     let id = write_id(text, nodes, out, at);
     let required = write_required(out, id, flags);
@@ -331,7 +331,7 @@ pub fn write_field(
     at: Cursor,
     indent: u32,
 ) -> Cursor
-    ensures { λ r. ⌜ Writes (fieldOut (now (text .entry)) (now (nodes .entry)) (room (now (nodes .entry))) (now (comments .entry)) (room (now (comments .entry))) indent) at r (now (out .entry)) (now (out .exit)) ⌝ }
+    ensures { λ r. ⌜ Writes (fieldOut (now (text .entry)) (now (nodes .entry)) (room nodeWidth (now (nodes .entry))) (now (comments .entry)) (room commentWidth (now (comments .entry))) indent) at r (now (out .entry)) (now (out .exit)) ⌝ }
 {
     let noted = cursor::put_comments(text, comments, out, at, indent);
     let spaced = cursor::put_spaces(out, noted, indent);
@@ -346,7 +346,7 @@ pub fn write_field(
 
 // write_param: no comments, no requiredness, no annotations
 fn write_param(text: &[u8], nodes: &[u32], comments: &[u32], out: &mut [u8], at: Cursor) -> Cursor
-    ensures { λ r. ⌜ Writes (paramOut (now (text .entry)) (now (nodes .entry)) (room (now (nodes .entry))) (now (comments .entry)) (room (now (comments .entry)))) at r (now (out .entry)) (now (out .exit)) ⌝ }
+    ensures { λ r. ⌜ Writes (paramOut (now (text .entry)) (now (nodes .entry)) (room nodeWidth (now (nodes .entry))) (now (comments .entry)) (room commentWidth (now (comments .entry)))) at r (now (out .entry)) (now (out .exit)) ⌝ }
 {
     let noted = cursor::pass_comments(comments, at);
     let head = write_field_head(text, nodes, out, cursor::pass_node(noted), at.node, 0);
@@ -372,11 +372,11 @@ pub fn write_params(
     at: Cursor,
     thrown: bool,
 ) -> Cursor
-    ensures { λ r. ⌜ Writes (paramsOut (now (text .entry)) (now (nodes .entry)) (room (now (nodes .entry))) (now (comments .entry)) (room (now (comments .entry))) thrown) at r (now (out .entry)) (now (out .exit)) ⌝ }
+    ensures { λ r. ⌜ Writes (paramsOut (now (text .entry)) (now (nodes .entry)) (room nodeWidth (now (nodes .entry))) (now (comments .entry)) (room commentWidth (now (comments .entry))) thrown) at r (now (out .entry)) (now (out .exit)) ⌝ }
 {
     let mut now = at;
     let mut first = true;
-    let mut left = nodes.len() / WIDTH;
+    let mut left = nodes.len() / NODE_WIDTH;
     while 0 < left {
         if cursor::kind_at(nodes, now.node) != ast::kind::FIELD {
             return now;

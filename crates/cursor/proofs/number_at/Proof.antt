@@ -2,20 +2,22 @@
 use borrow.Author.Needs.{needs}
 use borrow.Author.Tests.{le-leb}
 use Rattle.cursor.proofs.Bytes.{number-in, number-past}
-use Rattle.ast.specs.Records.{width}
+use Rattle.ast.specs.Records.{nodeWidth}
 use Rattle.cursor.specs.Onto.{numberAt}
 use Rattle.cursor.proofs.number_at.Statement.{statement}
 use Rattle.cursor.proofs.number_at.Tie as tie
 
 returns : tie.Need-returns
-unfolding numberAt width
+unfolding numberAt nodeWidth
 returns c = rw (le-leb _ _ (c .if1 .taken))
 
 returns-2 : tie.Need-returns-2
-returns-2 c = number-in _ _ _ (c .before .before .if1 .left)
+unfolding nodeWidth
+returns-2 c = number-in nodeWidth _ _ _ (c .before .before .if1 .left)
 
 returns-3 : tie.Need-returns-3
-returns-3 c = number-past _ _ _ (c .before .if1 .left) (c .if2 .left)
+unfolding nodeWidth
+returns-3 c = number-past nodeWidth _ _ _ (c .before .if1 .left) (c .if2 .left)
 
 pub number-at-spec : {M : Type 1} → statement M
 number-at-spec =

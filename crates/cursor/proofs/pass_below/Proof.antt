@@ -5,7 +5,7 @@ use Prim.Native.Nat.{ℕ}
 use native.Mathlib.Omega.{arith}
 use borrow.Author.Needs.{needs}
 use borrow.Author.Tests.{not-true, not-false}
-use Rattle.ast.specs.Records.{width, room}
+use Rattle.ast.specs.Records.{nodeWidth, room}
 use Rattle.cursor.specs.Onto.{passBelowFrom, passBelow}
 use Rattle.cursor.proofs.Runs.{below-none, below-stop, below-turn}
 use Rattle.cursor.proofs.pass_below.Statement.{statement}
@@ -13,13 +13,13 @@ use Rattle.cursor.proofs.pass_below.Tie as tie
 
 abbrev Inv-loop : tie.InvT-loop
 Inv-loop nodes owner now₀ left₀ now left =
-    (o : List ℕ) → passBelow nodes (room nodes) owner now₀ o ≡ passBelowFrom nodes (room nodes) owner left now o
+    (o : List ℕ) → passBelow nodes (room nodeWidth nodes) owner now₀ o ≡ passBelowFrom nodes (room nodeWidth nodes) owner left now o
 
 abbrev μ-loop : tie.MeasureT-loop
 μ-loop nodes owner now₀ left₀ now left = left
 
 loop-holds : tie.Need-loop-holds Inv-loop μ-loop
-unfolding passBelow room width
+unfolding passBelow room nodeWidth
 loop-holds c = λ o. refl
 
 returns : tie.Need-returns Inv-loop μ-loop

@@ -4,7 +4,7 @@ use mathlib.Core.List.{List}
 use Prim.Native.Nat.{ℕ}
 use native.Mathlib.Omega.{arith}
 use borrow.Author.Needs.{needs}
-use Rattle.ast.specs.Records.{width, room}
+use Rattle.ast.specs.Records.{commentWidth, room}
 use Rattle.cursor.specs.Onto.{passCommentsFrom, passComments}
 use Rattle.cursor.proofs.Runs.{passed-none, passed-stop, passed-turn}
 use Rattle.cursor.proofs.pass_comments.Statement.{statement}
@@ -12,17 +12,17 @@ use Rattle.cursor.proofs.pass_comments.Tie as tie
 
 abbrev Inv-loop : tie.InvT-loop
 Inv-loop comments at now₀ left₀ now left =
-    (o : List ℕ) → passComments comments (room comments) (at .node) now₀ o ≡ passCommentsFrom comments (room comments) (at .node) left now o
+    (o : List ℕ) → passComments comments (room commentWidth comments) (at .node) now₀ o ≡ passCommentsFrom comments (room commentWidth comments) (at .node) left now o
 
 abbrev μ-loop : tie.MeasureT-loop
 μ-loop comments at now₀ left₀ now left = left
 
 loop-holds : tie.Need-loop-holds Inv-loop μ-loop
-unfolding passComments room width
+unfolding passComments room commentWidth
 loop-holds c = λ o. refl
 
 returns : tie.Need-returns Inv-loop μ-loop
-returns c = λ o. passed-stop _ _ _ _ _ _ o (c .before .before .before .before .loop .inv o) _ (c .before .before .before .loop-test .taken) (c .before .before .parent-at .ensures) (c .if1 .taken)
+returns c = λ o. passed-stop _ _ _ _ _ _ o (c .before .before .before .before .loop .inv o) _ (c .before .before .before .loop-test .taken) (c .before .before .owner-at .ensures) (c .if1 .taken)
 
 sub-left : tie.Need-sub-left Inv-loop μ-loop
 sub-left c = omega (arith, c .before .before .before .before .loop-test .taken)
@@ -32,7 +32,7 @@ loop-less c = omega (arith, c .before .before .before .before .loop-test .taken)
 
 loop-again : tie.Need-loop-again Inv-loop μ-loop
 loop-again c =
-    λ o. passed-turn _ _ _ _ _ _ o (c .before .before .before .before .before .loop .inv o) _ (c .before .before .before .before .loop-test .taken) (c .before .before .before .parent-at .ensures) _ (c .before .if1 .left) (c .pass-comment .ensures o)
+    λ o. passed-turn _ _ _ _ _ _ o (c .before .before .before .before .before .loop .inv o) _ (c .before .before .before .before .loop-test .taken) (c .before .before .before .owner-at .ensures) _ (c .before .if1 .left) (c .pass-comment .ensures o)
 
 returns-2 : tie.Need-returns-2 Inv-loop μ-loop
 returns-2 c = λ o. passed-none _ _ _ _ _ _ o (c .before .loop .inv o) (c .loop-test .left)

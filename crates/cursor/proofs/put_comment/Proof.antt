@@ -1,10 +1,12 @@
 -- `cursor::put_comment` meets its contract.
 use borrow.Author.Needs.{needs}
+use Rattle.ast.specs.Records.{commentWidth, nodeWidth}
 use Rattle.cursor.proofs.Runs.{comment-is}
 use Rattle.cursor.proofs.put_comment.Statement.{statement}
 use Rattle.cursor.proofs.put_comment.Tie as tie
 
 returns : tie.Need-returns
+unfolding commentWidth
 returns c =
     comment-is _ _ _ _ _ _ _ _ _ _ _ _ _ _
     (c .before .before .before .before .before .before .before .before .before .before .before .before .before .before .part-at .ensures .0)
@@ -15,6 +17,7 @@ returns c =
     (c .pass-comment .ensures _)
 
 pub put-comment-spec : {M : Type 1} → statement M
+unfolding nodeWidth commentWidth
 put-comment-spec =
     tie.close
     (tie.spec

@@ -3,7 +3,7 @@ use mathlib.Core.Path.{_≡_, refl, _∙_}
 use native.Mathlib.Omega.{arith}
 use borrow.Author.Needs.{needs}
 use lib.ListN.{length}
-use Rattle.ast.specs.Records.{width, room}
+use Rattle.ast.specs.Records.{commentWidth, room}
 use Rattle.cursor.specs.Onto.{commentsFrom, commentsOut}
 use Rattle.cursor.proofs.Runs.{comments-none, comments-stop, comments-turn}
 use Rattle.cursor.proofs.put_comments.Statement.{statement}
@@ -12,13 +12,13 @@ use Rattle.cursor.proofs.put_comments.Tie as tie
 abbrev Inv-loop : tie.InvT-loop
 Inv-loop text comments out₀ at indent now₀ left₀ out now left =
     (length out ≡ length out₀)
-    × (commentsOut text comments (room comments) (at .node) indent now₀ out₀ ≡ commentsFrom text comments (room comments) (at .node) indent left now out)
+    × (commentsOut text comments (room commentWidth comments) (at .node) indent now₀ out₀ ≡ commentsFrom text comments (room commentWidth comments) (at .node) indent left now out)
 
 abbrev μ-loop : tie.MeasureT-loop
 μ-loop text comments out₀ at indent now₀ left₀ out now left = left
 
 loop-holds : tie.Need-loop-holds Inv-loop μ-loop
-unfolding commentsOut room width
+unfolding commentsOut room commentWidth
 loop-holds c = (refl, refl)
 
 same-length : tie.Need-same-length Inv-loop μ-loop
@@ -26,7 +26,7 @@ same-length c = c .before .before .before .before .loop .inv .0
 
 returns : tie.Need-returns Inv-loop μ-loop
 returns c =
-    comments-stop _ _ _ _ _ _ _ _ _ (c .before .before .before .before .loop .inv .1) _ (c .before .before .before .loop-test .taken) (c .before .before .parent-at .ensures) (c .if1 .taken)
+    comments-stop _ _ _ _ _ _ _ _ _ (c .before .before .before .before .loop .inv .1) _ (c .before .before .before .loop-test .taken) (c .before .before .owner-at .ensures) (c .if1 .taken)
 
 sub-left : tie.Need-sub-left Inv-loop μ-loop
 sub-left c = omega (arith, c .before .before .before .before .before .before .before .loop-test .taken)
@@ -38,7 +38,7 @@ loop-again : tie.Need-loop-again Inv-loop μ-loop
 loop-again c =
     let l = c .before .before .before .before .before .before .before .before .loop in (
       c .before .before .put-comment .kept .1 .1 .0 ∙ l .inv .0,
-      comments-turn _ _ _ _ _ _ _ _ _ (l .inv .1) _ (c .before .before .before .before .before .before .before .loop-test .taken) (c .before .before .before .before .before .before .parent-at .ensures) _ _ (c .before .before .before .before .if1 .left) (c .before .before .put-comment .ensures),
+      comments-turn _ _ _ _ _ _ _ _ _ (l .inv .1) _ (c .before .before .before .before .before .before .before .loop-test .taken) (c .before .before .before .before .before .before .owner-at .ensures) _ _ (c .before .before .before .before .if1 .left) (c .before .before .put-comment .ensures),
     )
 
 same-length-2 : tie.Need-same-length-2 Inv-loop μ-loop

@@ -1,27 +1,38 @@
 -- `reader::fit` meets its contract.
+use denote.Ref.{now}
+use Prim.Native.Nat.{_<_, _≤_}
 use borrow.Author.Needs.{needs}
 use borrow.Author.Tests.{lt-ltb, le-ltb}
-use Rattle.ast.specs.Records.{width, room}
+use Rattle.ast.specs.Records.{commentWidth, nodeWidth, room}
 use Rattle.parser.specs.Read.{said}
 use Rattle.reader.specs.Into.{fits}
 use Rattle.reader.proofs.fit.Statement.{statement}
 use Rattle.reader.proofs.fit.Tie as tie
 
 returns : tie.Need-returns
-unfolding fits room width
-returns c = rw (lt-ltb _ _ (c .before .before .before .before .before .before .before .if1 .taken)) (c .before .before .before .before .refuse .ensures)
+unfolding fits room commentWidth nodeWidth
+returns c =
+    let i = c .before .before .before .before .before .before .before in
+    let a = i .before .before .before .args in
+    let h : room nodeWidth (now (a .nodes)) < a .state .next = i .if1 .taken in
+    rw (lt-ltb _ _ h) (c .before .before .before .before .refuse .ensures)
 
 returns-2 : tie.Need-returns-2
-unfolding fits room width
+unfolding fits room commentWidth nodeWidth
 returns-2 c =
-    let h = c .before .before .before .before .before .before .before .before .if1 .left in
-    rw (le-ltb _ _ h, lt-ltb _ _ (c .before .before .before .before .before .before .before .if2 .taken)) (c .before .before .before .before .refuse2 .ensures)
+    let i = c .before .before .before .before .before .before .before in
+    let a = i .before .before .before .before .args in
+    let h : a .state .next ≤ room nodeWidth (now (a .nodes)) = i .before .if1 .left in
+    let k : room commentWidth (now (a .comments)) < a .state .owned = i .if2 .taken in
+    rw (le-ltb _ _ h, lt-ltb _ _ k) (c .before .before .before .before .refuse2 .ensures)
 
 returns-3 : tie.Need-returns-3
-unfolding fits room width said
+unfolding fits room commentWidth nodeWidth said
 returns-3 c =
-    let h = c .before .before .before .before .before .before .before .before .before .if1 .left in
-    let k = c .before .before .before .before .before .before .before .before .if2 .left in
+    let i = c .before .before .before .before .before .before .before .before in
+    let a = i .before .before .before .before .args in
+    let h : a .state .next ≤ room nodeWidth (now (a .nodes)) = i .before .if1 .left in
+    let k : a .state .owned ≤ room commentWidth (now (a .comments)) = i .if2 .left in
     rw (le-ltb _ _ h, le-ltb _ _ k, c .before .before .before .before .before .before .clear .ensures, c .before .before .clear2 .ensures)
 
 pub fit-spec : {M : Type 1} → statement M

@@ -6,25 +6,25 @@ use Rattle.write_fields.proofs.Rounds.{Going, starts}
 use Rattle.write_definitions.proofs.Rounds.{document-is, document-turn, document-over}
 use Rattle.write_definitions.specs.Onto.{documentFrom}
 use borrow.Author.Needs.{needs}
-use Rattle.ast.specs.Records.{width, room}
+use Rattle.ast.specs.Records.{commentWidth, nodeWidth, room}
 use Rattle.write_definitions.proofs.write_document.Statement.{statement}
 use Rattle.write_definitions.proofs.write_document.Tie as tie
 
 abbrev Inv-loop : tie.InvT-loop
-Inv-loop text nodes comments out₀ indent now₀ left₀ out now left = Going (documentFrom text nodes (room nodes) comments (room comments) indent (room nodes)) (documentFrom text nodes (room nodes) comments (room comments) indent left) now₀ out₀ now out
+Inv-loop text nodes comments out₀ indent now₀ left₀ out now left = Going (documentFrom text nodes (room nodeWidth nodes) comments (room commentWidth comments) indent (room nodeWidth nodes)) (documentFrom text nodes (room nodeWidth nodes) comments (room commentWidth comments) indent left) now₀ out₀ now out
 
 abbrev μ-loop : tie.MeasureT-loop
 μ-loop text nodes comments out₀ indent now₀ left₀ out now left = left
 
 loop-holds : tie.Need-loop-holds Inv-loop μ-loop
-unfolding room width
+unfolding room nodeWidth
 loop-holds c = starts _ _ _
 
 same-length : tie.Need-same-length Inv-loop μ-loop
 same-length c = c .before .before .before .loop .inv .long
 
 returns : tie.Need-returns Inv-loop μ-loop
-unfolding room width
+unfolding room nodeWidth
 returns c = ends _ _ _ (more _ _ _ _ _ (document-turn _ _ _ _ _ _ _ _ _ _ (document-is _ _ _ _ _ _ _ _ ∙ c .before .before .before .loop .inv .goes) (c .before .before .loop-test .taken)) (c .if1 .taken))
 
 sub-left : tie.Need-sub-left Inv-loop μ-loop
@@ -34,7 +34,7 @@ loop-less : tie.Need-loop-less Inv-loop μ-loop
 loop-less c = omega (arith, c .before .before .before .before .before .before .loop-test .taken)
 
 loop-again : tie.Need-loop-again Inv-loop μ-loop
-unfolding room width
+unfolding room nodeWidth
 loop-again c = record { goes = kept _ _ _ (less _ _ _ _ _ (document-turn _ _ _ _ _ _ _ _ _ _ (c .before .before .before .before .before .before .before .loop .inv .goes) (c .before .before .before .before .before .before .loop-test .taken)) (c .before .before .before .before .if1 .left)) _ _ (c .before .before .write-definition .ensures); long = c .before .before .write-definition .kept .1 .1 .1 .0 ∙ c .before .before .before .before .before .before .before .loop .inv .long }
 
 same-length-2 : tie.Need-same-length-2 Inv-loop μ-loop

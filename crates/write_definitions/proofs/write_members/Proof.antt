@@ -6,18 +6,18 @@ use Rattle.write_fields.proofs.Rounds.{Going, starts}
 use Rattle.write_definitions.proofs.Rounds.{members-turn, members-over}
 use Rattle.write_definitions.specs.Onto.{membersFrom}
 use borrow.Author.Needs.{needs}
-use Rattle.ast.specs.Records.{width, room}
+use Rattle.ast.specs.Records.{commentWidth, nodeWidth, room}
 use Rattle.write_definitions.proofs.write_members.Statement.{statement}
 use Rattle.write_definitions.proofs.write_members.Tie as tie
 
 abbrev Inv-loop : tie.InvT-loop
-Inv-loop text nodes comments out₀ indent kind now₀ left₀ out now left = Going (membersFrom text nodes (room nodes) comments (room comments) indent kind (room nodes)) (membersFrom text nodes (room nodes) comments (room comments) indent kind left) now₀ out₀ now out
+Inv-loop text nodes comments out₀ indent kind now₀ left₀ out now left = Going (membersFrom text nodes (room nodeWidth nodes) comments (room commentWidth comments) indent kind (room nodeWidth nodes)) (membersFrom text nodes (room nodeWidth nodes) comments (room commentWidth comments) indent kind left) now₀ out₀ now out
 
 abbrev μ-loop : tie.MeasureT-loop
 μ-loop text nodes comments out₀ indent kind now₀ left₀ out now left = left
 
 loop-holds : tie.Need-loop-holds Inv-loop μ-loop
-unfolding room width
+unfolding room nodeWidth
 loop-holds c = starts _ _ _
 
 same-length : tie.Need-same-length Inv-loop μ-loop

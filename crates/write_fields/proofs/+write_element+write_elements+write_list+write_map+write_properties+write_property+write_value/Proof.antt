@@ -6,7 +6,7 @@ use Rattle.cursor.proofs.Chain.{kept, last, ends, yes, no, about}
 use Rattle.write_fields.proofs.Shapes.{property-is, list-is, map-is, value-is, value-token}
 use Rattle.write_fields.proofs.Rounds.{Going, starts, each-turn, each-over}
 use borrow.Author.Needs.{needs}
-use Rattle.ast.specs.Records.{width, room}
+use Rattle.ast.specs.Records.{nodeWidth, room}
 use mathlib.Core.Bool.{true}
 use Rattle.write_fields.specs.Onto.{eachOut, propertyOut, valueOut}
 use Prim.Native.Nat.{ℕ, _<_, _*_, _+_}
@@ -127,13 +127,13 @@ abbrev write-value-calls : ℕ → write-value-lts.Claims
 write-value-calls t = (put-token-reads.Asked, put-token-reads.Learnt, kind-at-reads.Asked, kind-at-reads.Learnt, write-list-below t, write-list.Post, write-map-below t, write-map.Post)
 
 abbrev write-elements-Inv-loop : write-elements-lts.InvT-loop
-write-elements-Inv-loop text nodes out₀ owner depth now₀ first₀ left₀ out now first left = Going (eachOut nodes (room nodes) owner (valueOut text nodes (room nodes) depth) true (room nodes)) (eachOut nodes (room nodes) owner (valueOut text nodes (room nodes) depth) first left) now₀ out₀ now out
+write-elements-Inv-loop text nodes out₀ owner depth now₀ first₀ left₀ out now first left = Going (eachOut nodes (room nodeWidth nodes) owner (valueOut text nodes (room nodeWidth nodes) depth) true (room nodeWidth nodes)) (eachOut nodes (room nodeWidth nodes) owner (valueOut text nodes (room nodeWidth nodes) depth) first left) now₀ out₀ now out
 
 abbrev write-elements-μ-loop : write-elements-lts.MeasureT-loop
 write-elements-μ-loop text nodes out₀ owner depth now₀ first₀ left₀ out now first left = left
 
 abbrev write-properties-Inv-loop : write-properties-lts.InvT-loop
-write-properties-Inv-loop text nodes out₀ owner depth now₀ first₀ left₀ out now first left = Going (eachOut nodes (room nodes) owner (propertyOut (valueOut text nodes (room nodes) depth)) true (room nodes)) (eachOut nodes (room nodes) owner (propertyOut (valueOut text nodes (room nodes) depth)) first left) now₀ out₀ now out
+write-properties-Inv-loop text nodes out₀ owner depth now₀ first₀ left₀ out now first left = Going (eachOut nodes (room nodeWidth nodes) owner (propertyOut (valueOut text nodes (room nodeWidth nodes) depth)) true (room nodeWidth nodes)) (eachOut nodes (room nodeWidth nodes) owner (propertyOut (valueOut text nodes (room nodeWidth nodes) depth)) first left) now₀ out₀ now out
 
 abbrev write-properties-μ-loop : write-properties-lts.MeasureT-loop
 write-properties-μ-loop text nodes out₀ owner depth now₀ first₀ left₀ out now first left = left
@@ -149,7 +149,7 @@ module _ (t : ℕ) where
   write-element-returns-2 c = c .before .before .write-value .ensures
 
   write-elements-loop-holds : write-elements-lts.Need-loop-holds (write-elements-calls t) (write-elements-at t) write-elements.Post write-elements-Inv-loop write-elements-μ-loop
-  unfolding room width
+  unfolding room nodeWidth
   write-elements-loop-holds c = starts _ _ _
 
   write-elements-same-length : write-elements-lts.Need-same-length (write-elements-calls t) (write-elements-at t) write-elements.Post write-elements-Inv-loop write-elements-μ-loop
@@ -195,7 +195,7 @@ module _ (t : ℕ) where
   write-map-returns c = last _ _ (kept _ _ _ (kept _ _ _ (kept _ _ _ (map-is _ _ _ _ _) _ _ (c .before .before .before .before .before .before .before .before .before .before .before .before .before .pass-node .ensures _)) _ _ (c .before .before .before .before .before .before .before .before .before .before .before .put .ensures)) _ _ (c .before .before .before .before .before .before .before .write-properties .ensures)) _ _ (c .before .before .put2 .ensures)
 
   write-properties-loop-holds : write-properties-lts.Need-loop-holds (write-properties-calls t) (write-properties-at t) write-properties.Post write-properties-Inv-loop write-properties-μ-loop
-  unfolding room width
+  unfolding room nodeWidth
   write-properties-loop-holds c = starts _ _ _
 
   write-properties-same-length : write-properties-lts.Need-same-length (write-properties-calls t) (write-properties-at t) write-properties.Post write-properties-Inv-loop write-properties-μ-loop

@@ -6,18 +6,18 @@ use Rattle.write_fields.proofs.Rounds.{Going, starts, each-turn, each-o
 use mathlib.Core.Bool.{true}
 use Rattle.write_fields.specs.Onto.{annotationOut, eachOut}
 use borrow.Author.Needs.{needs}
-use Rattle.ast.specs.Records.{width, room}
+use Rattle.ast.specs.Records.{nodeWidth, room}
 use Rattle.write_fields.proofs.write_annotation_list.Statement.{statement}
 use Rattle.write_fields.proofs.write_annotation_list.Tie as tie
 
 abbrev Inv-loop : tie.InvT-loop
-Inv-loop text nodes out₀ owner now₀ first₀ left₀ out now first left = Going (eachOut nodes (room nodes) owner (annotationOut text nodes) true (room nodes)) (eachOut nodes (room nodes) owner (annotationOut text nodes) first left) now₀ out₀ now out
+Inv-loop text nodes out₀ owner now₀ first₀ left₀ out now first left = Going (eachOut nodes (room nodeWidth nodes) owner (annotationOut text nodes) true (room nodeWidth nodes)) (eachOut nodes (room nodeWidth nodes) owner (annotationOut text nodes) first left) now₀ out₀ now out
 
 abbrev μ-loop : tie.MeasureT-loop
 μ-loop text nodes out₀ owner now₀ first₀ left₀ out now first left = left
 
 loop-holds : tie.Need-loop-holds Inv-loop μ-loop
-unfolding room width
+unfolding room nodeWidth
 loop-holds c = starts _ _ _
 
 same-length : tie.Need-same-length Inv-loop μ-loop

@@ -7,18 +7,18 @@ use Rattle.write_fields.proofs.Rounds.{Going, starts, params-is, params
 use mathlib.Core.Bool.{true}
 use Rattle.write_fields.specs.Onto.{isOf, paramsFrom}
 use borrow.Author.Needs.{needs}
-use Rattle.ast.specs.Records.{width, room}
+use Rattle.ast.specs.Records.{commentWidth, nodeWidth, room}
 use Rattle.write_fields.proofs.write_params.Statement.{statement}
 use Rattle.write_fields.proofs.write_params.Tie as tie
 
 abbrev Inv-loop : tie.InvT-loop
-Inv-loop text nodes comments out₀ thrown now₀ first₀ left₀ out now first left = Going (paramsFrom text nodes (room nodes) comments (room comments) thrown true (room nodes)) (paramsFrom text nodes (room nodes) comments (room comments) thrown first left) now₀ out₀ now out
+Inv-loop text nodes comments out₀ thrown now₀ first₀ left₀ out now first left = Going (paramsFrom text nodes (room nodeWidth nodes) comments (room commentWidth comments) thrown true (room nodeWidth nodes)) (paramsFrom text nodes (room nodeWidth nodes) comments (room commentWidth comments) thrown first left) now₀ out₀ now out
 
 abbrev μ-loop : tie.MeasureT-loop
 μ-loop text nodes comments out₀ thrown now₀ first₀ left₀ out now first left = left
 
 loop-holds : tie.Need-loop-holds Inv-loop μ-loop
-unfolding room width
+unfolding room nodeWidth
 loop-holds c = starts _ _ _
 
 same-length : tie.Need-same-length Inv-loop μ-loop

@@ -4,7 +4,7 @@ use Prim.Native.Nat.{_≤_, _-_, _+_}
 use native.Mathlib.Omega.{arith}
 use borrow.Author.Needs.{needs}
 use lib.ListN.{length}
-use Rattle.steps.specs.Into.{ownIn, owns, parents}
+use Rattle.steps.specs.Into.{ownIn, owns, owners}
 use Rattle.steps.proofs.Turns.{own-start, own-step, own-done}
 use Rattle.steps.proofs.state.State.own.Statement.{statement}
 use Rattle.steps.proofs.state.State.own.Tie as tie
@@ -12,7 +12,7 @@ use Rattle.steps.proofs.state.State.own.Tie as tie
 abbrev Inv-loop : tie.InvT-loop
 Inv-loop st owner comments₀ first count i₀ comments i =
     (i ≤ count) × (length comments ≡ length comments₀)
-    × (parents first count owner comments₀ ≡ parents (first + i) (count - i) owner comments)
+    × (owners first count owner comments₀ ≡ owners (first + i) (count - i) owner comments)
 
 abbrev μ-loop : tie.MeasureT-loop
 μ-loop st owner comments₀ first count i₀ comments i = count - i
@@ -27,7 +27,7 @@ loop-again : tie.Need-loop-again Inv-loop μ-loop
 loop-again c =
     let l = c .before .before .before .before .before .loop in
     let h = c .before .before .before .before .loop-test .taken in
-    let p = c .before .before .put-parent in
+    let p = c .before .before .put-owner in
     (omega arith, p .kept .0 ∙ l .inv .1, own-step _ _ _ _ _ _ _ h (l .inv .2) (p .ensures))
 
 same-length : tie.Need-same-length Inv-loop μ-loop

@@ -6,7 +6,7 @@ use Rattle.steps.proofs.state.State.put_leaf.Tie as tie
 
 returns : tie.Need-returns
 unfolding leafIn
-returns c = λ u. rw (c .«open» .ensures, c .before .before .before .put-record .ensures, c .before .before .before .before .place-of .ensures)
+returns c = λ u. rw (c .before .before .put-node .ensures, c .before .before .before .place-of .ensures, c .before .before .before .before .before .«open» .ensures)
 
 pub put-leaf-spec : {M : Type 1} → statement M
 put-leaf-spec =

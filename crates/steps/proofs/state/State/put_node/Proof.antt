@@ -6,7 +6,7 @@ use Rattle.steps.proofs.state.State.put_node.Tie as tie
 
 returns : tie.Need-returns
 unfolding putNode
-returns c = rw (c .before .before .put-record .ensures, c .before .before .before .place-of .ensures)
+returns c = rw (c .before .before .put-node .ensures, c .before .before .before .place-of .ensures)
 
 pub put-node-spec : {M : Type 1} → statement M
 put-node-spec = tie.close (tie.spec (λ c κs. search needs) (λ c κs. search needs) (λ c. search needs) returns)

@@ -10,7 +10,7 @@ returns : tie.Need-returns
 unfolding waitIn waits putWaiting
 returns c =
     let b = c .bump .ensures in
-    let p = c .before .before .before .put-record .ensures in
+    let p = c .before .before .before .put-comment .ensures in
     λ t. ⊎-elim (λ w. rw (b, p, eq-eqb _ _ (w .0 .taken), w .1))
     (λ w. rw (b, p, ne-eqb _ _ (w .0 .left), w .1)) (c .before .before .before .before .before .before .before .before .before .if1 .came)
 
