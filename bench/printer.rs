@@ -16,6 +16,10 @@ extern "C" {
 
 const INDENT: u32 = 2;
 
+/// The numbers of a record.
+const NODE: usize = 10;
+const COMMENT: usize = 9;
+
 /// The contracts ask nothing of the text, of what is lent or of what that holds.
 fn read(text: &[u8], nodes: &mut [u32], comments: &mut [u32]) {
     let mut answer = [0; 3];
@@ -39,15 +43,15 @@ fn main() {
     if words.len() > 3 {
         text.truncate(words[3].parse().expect("a number"));
     }
-    let mut nodes = vec![7; 9 * 131_072];
-    let mut comments = vec![7; 9 * 65_536];
+    let mut nodes = vec![7; NODE * 131_072];
+    let mut comments = vec![7; COMMENT * 65_536];
     let mut out = vec![7; 1 << 20];
     let answer = print(&text, &mut nodes, &mut comments, &mut out);
     if answer[0] != 0 {
         println!("{} bytes, refused: {} at {}, length {}", text.len(), answer[0], answer[1], answer[2]);
         return;
     }
-    let (n, c, b) = (9 * answer[1] as usize, 9 * answer[2] as usize, answer[3] as usize);
+    let (n, c, b) = (NODE * answer[1] as usize, COMMENT * answer[2] as usize, answer[3] as usize);
     if words.len() > 3 {
         if words[2] == "once" {
             black_box(print(black_box(&text), &mut nodes[..n], &mut comments[..c], &mut out[..b]));

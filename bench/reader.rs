@@ -13,6 +13,10 @@ extern "C" {
     fn hirvelan_read(text: *const u8, length: usize, nodes: *mut u32, nodes_length: usize, comments: *mut u32, comments_length: usize, answer: *mut u32, answer_length: usize);
 }
 
+/// The numbers of a record.
+const NODE: usize = 10;
+const COMMENT: usize = 9;
+
 /// The contract asks nothing of the text, the tables or what they hold.
 fn read(text: &[u8], nodes: &mut [u32], comments: &mut [u32]) -> [u32; 3] {
     let mut answer = [0; 3];
@@ -23,14 +27,14 @@ fn read(text: &[u8], nodes: &mut [u32], comments: &mut [u32]) -> [u32; 3] {
 fn main() {
     let words: Vec<String> = std::env::args().collect();
     let text = std::fs::read(&words[1]).expect("a readable file");
-    let mut nodes = vec![7; 9 * 131_072];
-    let mut comments = vec![7; 9 * 65_536];
+    let mut nodes = vec![7; NODE * 131_072];
+    let mut comments = vec![7; COMMENT * 65_536];
     if words.len() > 3 {
         let part = &text[..words[3].parse::<usize>().expect("a number")];
         let answer = read(part, &mut nodes, &mut comments);
         let (n, c) = if answer[0] == 0 { (answer[1] as usize, answer[2] as usize) } else { (0, 0) };
         if words[2] == "once" {
-            black_box(read(black_box(part), &mut nodes[..9 * n], &mut comments[..9 * c]));
+            black_box(read(black_box(part), &mut nodes[..NODE * n], &mut comments[..COMMENT * c]));
         }
         return;
     }
@@ -42,7 +46,7 @@ fn main() {
     }
     let (n, c) = if answer[0] == 0 { (answer[1] as usize, answer[2] as usize) } else { (0, 0) };
     let speed = best(text.len(), || {
-        black_box(read(black_box(&text), &mut nodes[..9 * n], &mut comments[..9 * c]));
+        black_box(read(black_box(&text), &mut nodes[..NODE * n], &mut comments[..COMMENT * c]));
     });
     println!("{speed:.1} MB/s, the best of {RUNS} runs");
 }

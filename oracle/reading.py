@@ -1,4 +1,4 @@
-"""A reading of document 01 with Changes 1 and 4, written along its prose, to find where it and the Rust part.
+"""A reading of document 01 with Changes 1, 4 and 7, written along its prose, to find where it and the Rust part.
 
 answer(text) gives what `oracle_fields nodes` prints, but for the lines of a text with CR LF; where rico panics it gives the
 end rule's refusal. outside(text) tells whether a field is begun with another token than an integer: if not, the answer is
@@ -73,12 +73,12 @@ class Reader:
     # ---- records
 
     def open(self, kind, parent, flags=0, at=None):
-        """A record that starts at a token (the one in hand if none is named); close sets its end."""
-        self.nodes.append([kind, parent, flags, *self.tokens[self.at if at is None else at][1:4], 0, 0, 0])
+        """A record that starts at a token (the one in hand if none is named); close sets its end and the number of the record past all below it."""
+        self.nodes.append([kind, parent, flags, *self.tokens[self.at if at is None else at][1:4], 0, 0, 0, 0])
         return len(self.nodes) - 1
 
     def close(self, record):
-        self.nodes[record][6:] = self.tokens[self.at - 1][4:]
+        self.nodes[record][6:] = [*self.tokens[self.at - 1][4:], len(self.nodes)]
 
     def leaf(self, kind, parent):
         record = self.open(kind, parent)
@@ -289,8 +289,8 @@ class Reader:
                 self.value(me, depth + 1)
 
 
-# Of a row by its length, the numbers that are no line and no column: of a record, and of a token.
-NO_PLACES = {9: (0, 1, 2, 3, 6), 7: (0, 1, 4)}
+# Of a row by its length, the numbers that are no line and no column: of a node, of a comment, and of a token.
+NO_PLACES = {10: (0, 1, 2, 3, 6, 9), 9: (0, 1, 2, 3, 6), 7: (0, 1, 4)}
 
 
 def unplaced(rows):

@@ -55,7 +55,7 @@ def case():
     if refusal[0]:
         return text, refusal, None, None, None
     nodes, comments = number(), number()
-    rows = [[number() for _ in range(9)] for _ in range(nodes + comments)]
+    rows = [[number() for _ in range(10 if i < nodes else 9)] for i in range(nodes + comments)]
     if PAIR in text:
         place(text, rows)
     return text, None, rows[:nodes], rows[nodes:], [part(number()) for _ in range(3)]

@@ -2,13 +2,14 @@
 
 use crate::random::Rng;
 use crate::sides::{fault, wanted, Fault, Port, Request, Source, Wanted, INDENTS, LONGEST};
+use oracle::flatten::{COMMENT_WIDTH, NODE_WIDTH};
 
 /// What counts when definitions agree: the tree, kinds, flags, the bytes of some kinds and of the comments, after the drop in parameters.
 pub fn shape(text: &[u8], nodes: &[u32], comments: &[u32]) -> Vec<u8> {
-    let records: Vec<&[u32]> = nodes.chunks(9).collect();
+    let records: Vec<&[u32]> = nodes.chunks(NODE_WIDTH).collect();
     let bytes = |record: &[u32]| &text[record[3] as usize..record[6] as usize];
     let mut notes: Vec<Vec<&[u8]>> = vec![Vec::new(); records.len()];
-    for comment in comments.chunks(9) {
+    for comment in comments.chunks(COMMENT_WIDTH) {
         notes[comment[1] as usize].push(bytes(comment));
     }
     let parameter = |at: usize| records[at][0] == 12 && records[records[at][1] as usize][0] == 11;
@@ -99,7 +100,7 @@ pub fn list(port: &mut Port, text: &[u8], indent: usize, length: usize, rng: &mu
     let mut requests = Vec::with_capacity(length);
     for _ in 0..length {
         let (now, stands): (&Wanted, &[u8]) = if printings > 0 { (&second, &print) } else { (&first, text) };
-        let (nodes, comments) = (size(rng, now.nodes.len(), 9), size(rng, now.comments.len(), 9));
+        let (nodes, comments) = (size(rng, now.nodes.len(), NODE_WIDTH), size(rng, now.comments.len(), COMMENT_WIDTH));
         if rng.percent(45) {
             requests.push(Request { prints: false, nodes, comments, out: 0 });
             port.read(&file, now, nodes, comments, rng)?;

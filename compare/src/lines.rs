@@ -40,11 +40,11 @@ fn starts(text: &str) -> Vec<u32> {
     starts
 }
 
-/// Sets the lines and columns of records by the rule; how many records get another line than rico's, and how many another column.
-pub fn place(text: &[u8], records: &mut [u32]) -> (u64, u64) {
+/// Sets the lines and columns of records of so many numbers by the rule; how many records get another line than rico's, and how many another column.
+pub fn place(text: &[u8], records: &mut [u32], width: usize) -> (u64, u64) {
     let starts = starts(std::str::from_utf8(text).expect("an accepted text"));
     let (mut lines, mut columns) = (0, 0);
-    for record in records.chunks_mut(9) {
+    for record in records.chunks_mut(width) {
         let before = record.to_vec();
         for at in [3, 6] {
             let line = starts.partition_point(|start| *start <= record[at]);

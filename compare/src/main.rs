@@ -4,10 +4,13 @@
 
 mod calls;
 mod lines;
+mod moves;
 mod random;
 mod sides;
 mod texts;
 
+use moves::{Moved, Way};
+use oracle::flatten::{COMMENT_WIDTH, NODE_WIDTH};
 use random::Rng;
 use sides::{wanted, Fault, Own, Port, Source, Wanted, INDENTS, LONGEST};
 use std::collections::BTreeMap;
@@ -84,7 +87,7 @@ fn ask(port: &mut Port, text: &[u8], wanted: &Wanted, care: Care, rng: &mut Rng)
         port.print(text, wanted, rng.below(INDENTS) as u32, c, n, o, rng)?;
         if care != Care::Quick || rng.percent(5) {
             port.read(text, wanted, 0, 0, rng)?;
-            port.read(text, wanted, 9 * rng.below(50), 9 * rng.below(50), rng)?;
+            port.read(text, wanted, NODE_WIDTH * rng.below(50), COMMENT_WIDTH * rng.below(50), rng)?;
             port.print(text, wanted, rng.below(INDENTS) as u32, 0, 0, 0, rng)?;
             port.print(text, wanted, 9, n, c, o, rng)?;
             port.print(text, wanted, 9 + rng.next() as u32 % (u32::MAX - 8), c, n, o, rng)?;
@@ -94,9 +97,9 @@ fn ask(port: &mut Port, text: &[u8], wanted: &Wanted, care: Care, rng: &mut Rng)
     let (n, c) = (wanted.nodes.len(), wanted.comments.len());
     let all = care == Care::All || text.len() <= 600;
     // tables: exact, larger, empty, one number short, one record short
-    let lengths = |need: usize, rng: &mut Rng| [need + 1 + rng.below(8), need + 9 + rng.below(40), 0, need.saturating_sub(1), need.saturating_sub(9)];
+    let lengths = |need: usize, width: usize, rng: &mut Rng| [need + 1 + rng.below(8), need + width + rng.below(40), 0, need.saturating_sub(1), need.saturating_sub(width)];
     port.read(text, wanted, n, c, rng)?;
-    let (node_lengths, comment_lengths) = (lengths(n, rng), lengths(c, rng));
+    let (node_lengths, comment_lengths) = (lengths(n, NODE_WIDTH, rng), lengths(c, COMMENT_WIDTH, rng));
     for at in 0..5 {
         if all || rng.percent(40) {
             port.read(text, wanted, node_lengths[at], c, rng)?;
@@ -128,6 +131,22 @@ fn ask(port: &mut Port, text: &[u8], wanted: &Wanted, care: Care, rng: &mut Rng)
     // 26 comes before all these
     port.print(text, wanted, 9, n, c, b, rng)?;
     port.print(text, wanted, 9 + rng.next() as u32 % (u32::MAX - 8), 0, c, 0, rng)?;
+    if all || rng.percent(40) {
+        stored(port, wanted, rng)?;
+    }
+    Ok(())
+}
+
+/// The node table of a text, stored with nine numbers a record and with ten: each is moved to the other.
+fn stored(port: &mut Port, wanted: &Wanted, rng: &mut Rng) -> Result<(), Fault> {
+    let ten = &wanted.nodes;
+    let nine: Vec<u32> = ten.chunks(NODE_WIDTH).flat_map(|record| record[..NODE_WIDTH - 1].to_vec()).collect();
+    for (way, from, to) in [(Way::Widen, &nine, ten), (Way::Narrow, ten, &nine)] {
+        let moved = Moved::Rows { records: (to.len() / way.to()) as u32, rows: to.clone() };
+        port.move_table(way, from, &moved, to.len(), rng)?;
+        port.move_table(way, from, &moved, to.len() + 1 + rng.below(30), rng)?;
+        port.move_table(way, from, &moved, to.len().saturating_sub(1 + rng.below(12)), rng)?;
+    }
     Ok(())
 }
 
@@ -197,11 +216,11 @@ impl Compare {
                 None => {
                     family.accepted += 1;
                     self.numbers[0] += 1;
-                    for record in wanted.nodes.chunks(9).chain(wanted.comments.chunks(9)) {
+                    for record in wanted.nodes.chunks(NODE_WIDTH).chain(wanted.comments.chunks(COMMENT_WIDTH)) {
                         self.kinds[record[0] as usize] += 1;
                         self.flags |= record[2];
                     }
-                    for pair in wanted.nodes.chunks(9).zip(wanted.nodes.chunks(9).skip(1)) {
+                    for pair in wanted.nodes.chunks(NODE_WIDTH).zip(wanted.nodes.chunks(NODE_WIDTH).skip(1)) {
                         // an id is a field's first child
                         match pair {
                             ([12, ..], [17, ..]) => self.fields[0] += 1,
@@ -209,7 +228,7 @@ impl Compare {
                             _ => {}
                         }
                     }
-                    let records = (wanted.nodes.len() + wanted.comments.len()) as u64 / 9;
+                    let records = (wanted.nodes.len() / NODE_WIDTH + wanted.comments.len() / COMMENT_WIDTH) as u64;
                     self.records[usize::from(lines::has_pair(text))] += records;
                     self.records[2] += wanted.moved.0;
                     self.records[3] += wanted.moved.1;
@@ -586,7 +605,7 @@ impl Compare {
             let text = texts::document(&mut rng, 0);
             let wanted = wanted(&text, None);
             let (n, c) = (wanted.nodes.len(), wanted.comments.len());
-            if wanted.source != Source::Rico || wanted.refusal.is_some() || n > 270 || c > 90 {
+            if wanted.source != Source::Rico || wanted.refusal.is_some() || n > 30 * NODE_WIDTH || c > 10 * COMMENT_WIDTH {
                 continue;
             }
             made += 1;
@@ -596,7 +615,7 @@ impl Compare {
             let outs: Vec<usize> = (0..=b + 9).collect();
             let mut result = Ok(());
             'all: for nodes in 0..=n + 19 {
-                for comments in [0, c.saturating_sub(9), c.saturating_sub(1), c, c + 1, c + 9, rng.below(c + 20)] {
+                for comments in [0, c.saturating_sub(COMMENT_WIDTH), c.saturating_sub(1), c, c + 1, c + COMMENT_WIDTH, rng.below(c + 20)] {
                     result = self.port.read(&text, &wanted, nodes, comments, &mut rng).map(drop);
                     if result.is_err() {
                         break 'all;
@@ -706,6 +725,48 @@ impl Compare {
         }
     }
 
+    /// One stored table: exact, longer, shorter outputs. Texts here are tables, accepted those that can be moved.
+    fn table(&mut self, way: Way, table: &[u32], wanted: &Moved, rng: &mut Rng) {
+        let need = table.len() / way.from() * way.to();
+        let outs = [need, need + 1 + rng.below(30), need.saturating_sub(1 + rng.below(12)), 0, rng.below(need + 1)];
+        let family = self.families.last_mut().expect("a family");
+        family.texts += 1;
+        family.accepted += u64::from(matches!(wanted, Moved::Rows { .. }));
+        for out in outs {
+            if let Err(fault) = self.port.move_table(way, table, wanted, out, rng) {
+                // no text leads to it, so what is shown are the numbers
+                let shown: Vec<u8> = table.iter().take(400).flat_map(|n| format!("{n} ").into_bytes()).collect();
+                return self.differs(&shown, fault);
+            }
+        }
+    }
+
+    /// Change 7: stored tables, right and damaged, moved both ways.
+    fn moves(&mut self, count: u64) {
+        self.begin("stored tables moved");
+        let mut rng = self.rng(count);
+        for (parents, known) in moves::KNOWN {
+            let nine = moves::laid(parents, None);
+            // where a parent is bad, the tenth numbers are whatever
+            let ten = moves::laid(parents, Some(known.unwrap_or(parents)));
+            let records = parents.len() as u32;
+            for (way, table, rows) in [(Way::Widen, &nine, &ten), (Way::Narrow, &ten, &nine)] {
+                let wanted = match known {
+                    Ok(_) => Moved::Rows { records, rows: rows.clone() },
+                    Err(place) => Moved::Refused(*place),
+                };
+                assert_eq!(moves::moved(way, table).into_output(1 << 20), wanted.into_output(1 << 20), "the model of {way:?} on {parents:?}");
+                self.table(way, table, &wanted, &mut rng);
+            }
+        }
+        for number in 0..count {
+            let mut rng = self.rng(number);
+            let (way, table) = moves::table(&mut rng, number % 5000 == 0);
+            let wanted = moves::moved(way, &table);
+            self.table(way, &table, &wanted, &mut rng);
+        }
+    }
+
     fn kept(&mut self, folder: &str) {
         self.begin("texts of the kept lists");
         for (name, tokens) in [("tokens.list", true), ("differences.list", true), ("answers.list", false), ("panics.list", false)] {
@@ -742,7 +803,7 @@ fn kept(bytes: &[u8], tokens: bool) -> Vec<&[u8]> {
         }
         *at += 4;
         if refusal == 0 {
-            *at += (number(at) + number(at)) * 36;
+            *at += number(at) * 4 * NODE_WIDTH + number(at) * 4 * COMMENT_WIDTH;
             for _ in 0..3 {
                 *at += number(at);
             }
@@ -802,6 +863,7 @@ fn run() -> u64 {
     let printed = all.demand(count / 10, &corpus);
     all.short(longest);
     all.line_ends(count / 10, &corpus, longest);
+    all.moves(count / 5);
     all.close();
 
     println!("\n| texts | count | accepted | with CR LF | outside | rico panics | cut otherwise | not judged | calls | differences |\n|---|---|---|---|---|---|---|---|---|---|");
@@ -828,6 +890,7 @@ fn run() -> u64 {
     let met = |counts: &[u64]| counts.iter().enumerate().filter(|(_, n)| **n > 0).map(|(k, n)| format!("{k} {}", thousands(*n))).collect::<Vec<_>>().join(", ");
     println!("Texts by refusal (0: accepted): {}.", met(&all.numbers));
     println!("Readings and printings by answer (0: accepted): {}.", met(&all.port.answers));
+    println!("Moves of stored tables by answer (0: accepted): {}.", met(&all.port.moves));
     println!("Records by kind: {}. Flags met: {}.", met(&all.kinds), all.flags);
     let [without, with, lines, columns] = all.records.map(thousands);
     println!("Records of accepted texts: {without} without CR LF, all of rico's numbers compared; {with} with it, lines and columns by the rule: {lines} have another line than rico's, in {} texts, {columns} another column.", thousands(all.moved));

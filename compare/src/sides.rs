@@ -2,10 +2,13 @@
 //!
 //! Change 4: a text is inside if each field that is begun starts with an integer token, else outside. The answer wanted is that of rico with the field
 //! rule of Change 4 (oracle/fields.patch), which tells the side too. Inside rico unchanged must give the very same.
+//!
+//! Change 7: the tenth number of a node comes from rico's tree (oracle/src/flatten.rs). What a move of a stored table has to give is in moves.rs.
 
 use crate::lines;
+use crate::moves::{Moved, Way};
 use crate::random::Rng;
-use oracle::flatten::Record;
+use oracle::flatten::{COMMENT_WIDTH, NODE_WIDTH};
 use oracle::tokens::cut;
 use rico::lexer::Token;
 
@@ -93,7 +96,7 @@ fn cut_otherwise(text: &[u8]) -> (Vec<usize>, bool) {
     (ends, documented)
 }
 
-fn flat(records: &[Record]) -> Vec<u32> {
+fn flat<const WIDTH: usize>(records: &[[u32; WIDTH]]) -> Vec<u32> {
     records.iter().flatten().copied().collect()
 }
 
@@ -146,7 +149,7 @@ fn answer(text: &[u8], only: Option<usize>, rule: Rule) -> Wanted {
     if let Some(refusal) = &mut wanted.refusal {
         refusal[1] = back(refusal[1]);
     }
-    for record in wanted.nodes.chunks_mut(9).chain(wanted.comments.chunks_mut(9)) {
+    for record in wanted.nodes.chunks_mut(NODE_WIDTH).chain(wanted.comments.chunks_mut(COMMENT_WIDTH)) {
         for place in [3, 6] {
             let line_start = record[place] + 1 - record[place + 2];
             record[place] = back(record[place]);
@@ -164,7 +167,7 @@ fn judged(text: &[u8], only: Option<usize>, rule: Rule) -> Wanted {
         return wanted;
     }
     if wanted.refusal.is_none() {
-        let (nodes, comments) = (lines::place(text, &mut wanted.nodes), lines::place(text, &mut wanted.comments));
+        let (nodes, comments) = (lines::place(text, &mut wanted.nodes, NODE_WIDTH), lines::place(text, &mut wanted.comments, COMMENT_WIDTH));
         wanted.moved = (nodes.0 + comments.0, nodes.1 + comments.1);
     }
     let other = by(&lines::spaced(text), Some(INDENTS));
@@ -223,14 +226,15 @@ asked!(by_fields, oracle_fields, rico_fields);
 impl Wanted {
     /// The answer of a reading with tables of these lengths, and what begins each table; the rest is 0.
     pub fn reading(&self, nodes: usize, comments: usize) -> ([u32; 3], &[u32], &[u32]) {
+        let (n, c) = (self.nodes.len() / NODE_WIDTH, self.comments.len() / COMMENT_WIDTH);
         if let Some(refusal) = self.refusal {
             (refusal, &[], &[])
-        } else if self.nodes.len() / 9 > nodes / 9 {
+        } else if n > nodes / NODE_WIDTH {
             ([24, 0, 0], &[], &[])
-        } else if self.comments.len() / 9 > comments / 9 {
+        } else if c > comments / COMMENT_WIDTH {
             ([25, 0, 0], &[], &[])
         } else {
-            ([0, (self.nodes.len() / 9) as u32, (self.comments.len() / 9) as u32], &self.nodes, &self.comments)
+            ([0, n as u32, c as u32], &self.nodes, &self.comments)
         }
     }
 
@@ -259,6 +263,8 @@ extern "C" {
     fn hirvelan_check(text: *const u8, length: usize, answer: *mut u32, answer_length: usize);
     fn hirvelan_read(text: *const u8, length: usize, nodes: *mut u32, nodes_length: usize, comments: *mut u32, comments_length: usize, answer: *mut u32, answer_length: usize);
     fn hirvelan_print(text: *const u8, length: usize, indent: u32, nodes: *mut u32, nodes_length: usize, comments: *mut u32, comments_length: usize, out: *mut u8, out_length: usize, answer: *mut u64, answer_length: usize);
+    fn hirvelan_widen(table: *const u32, length: usize, out: *mut u32, out_length: usize, answer: *mut u32, answer_length: usize);
+    fn hirvelan_narrow(table: *const u32, length: usize, out: *mut u32, out_length: usize, answer: *mut u32, answer_length: usize);
     fn hirvelan_run(space: *mut u8, space_length: usize, file: usize, indent: u32, requests: *const u32, requests_length: usize, nodes: *mut u32, nodes_length: usize, comments: *mut u32, comments_length: usize, out: *mut u8, out_length: usize) -> usize;
 }
 
@@ -380,14 +386,17 @@ pub struct Port {
     space: Lent<u8>,
     answer: Lent<u32>,
     printed: Lent<u64>,
+    table: Lent<u32>,
     pub calls: u64,
     /// Readings and printings by the number wanted; 0: accepted.
     pub answers: [u64; 28],
+    /// Moves of stored tables, likewise.
+    pub moves: [u64; 34],
 }
 
 impl Port {
     pub fn new() -> Self {
-        Port { nodes: Lent::new(), comments: Lent::new(), out: Lent::new(), space: Lent::new(), answer: Lent::new(), printed: Lent::new(), calls: 0, answers: [0; 28] }
+        Port { nodes: Lent::new(), comments: Lent::new(), out: Lent::new(), space: Lent::new(), answer: Lent::new(), printed: Lent::new(), table: Lent::new(), calls: 0, answers: [0; 28], moves: [0; 34] }
     }
 
     pub fn check(&mut self, text: &[u8], wanted: &Wanted) -> Result<(), Fault> {
@@ -429,6 +438,37 @@ impl Port {
                 return Err(Fault {
                     kind: format!("read, {part}: {} wanted, {} given", answer[0], given.first().unwrap_or(&0)),
                     said: format!("tables of {nodes} and {comments}: wanted {answer:?}, given {given:?}; {part}{first}"),
+                });
+            }
+        }
+        Ok(answer[0] == 0)
+    }
+
+    /// One move of a stored table into an output of so many numbers; true if it is accepted. The table has to stay as it is.
+    pub fn move_table(&mut self, way: Way, table: &[u32], wanted: &Moved, out: usize, rng: &mut Rng) -> Result<bool, Fault> {
+        self.calls += 1;
+        let (answer, rows) = wanted.into_output(out);
+        self.moves[answer[0] as usize] += 1;
+        let room = if rng.percent(97) { 3 } else { rng.below(6) };
+        let seed = rng.next() as u32;
+        self.table.lend(table.len(), seed >> 5);
+        self.table.cells[GUARD..GUARD + table.len()].copy_from_slice(table);
+        let (t, o, a) = (self.table.cells[GUARD..].as_ptr(), self.nodes.lend(out, seed), self.answer.lend(room, !seed));
+        match way {
+            Way::Widen => unsafe { hirvelan_widen(t, table.len(), o, out, a, room) },
+            Way::Narrow => unsafe { hirvelan_narrow(t, table.len(), o, out, a, room) },
+        }
+        let parts = [
+            ("answer", self.answer.differs(&answer[..room.min(3)])),
+            ("output", self.nodes.differs(rows)),
+            ("table", self.table.differs_whole(table)),
+        ];
+        for (part, differs) in parts {
+            if let Some(first) = differs {
+                let given = self.answer.part();
+                return Err(Fault {
+                    kind: format!("{way:?}, {part}: {} wanted, {} given", answer[0], given.first().unwrap_or(&0)),
+                    said: format!("a table of {}, an output of {out}: wanted {answer:?}, given {given:?}; {part}{first}", table.len()),
                 });
             }
         }

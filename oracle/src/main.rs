@@ -112,10 +112,15 @@ fn answer(text: &[u8], form: &Form) -> String {
     }
 }
 
+/// The records: the nodes, then the comments.
+fn rows(tables: &flatten::Tables) -> impl Iterator<Item = &[u32]> {
+    tables.nodes.iter().map(|n| &n[..]).chain(tables.comments.iter().map(|c| &c[..]))
+}
+
 fn node_lines(tables: &flatten::Tables) -> String {
     let mut out = String::new();
     writeln!(out, "{} {}", tables.nodes.len(), tables.comments.len()).unwrap();
-    for record in tables.nodes.iter().chain(&tables.comments) {
+    for record in rows(tables) {
         let line: Vec<String> = record.iter().map(u32::to_string).collect();
         writeln!(out, "{}", line.join(" ")).unwrap();
     }
@@ -201,7 +206,7 @@ fn list_answers(texts: &[&[u8]], out: &mut Vec<u8>) {
                 }
                 put(out, tables.nodes.len());
                 put(out, tables.comments.len());
-                for record in tables.nodes.iter().chain(&tables.comments) {
+                for record in rows(&tables) {
                     for number in record {
                         put(out, *number as usize);
                     }

@@ -49,9 +49,9 @@ fn try_tables(text: &[u8], nodes: &mut [u32], comments: &mut [u32]) {
 }
 
 fn try_small(text: &[u8], nodes: usize, comments: usize)
-    requires { ⌜ (nodes ≤ 20) × (comments ≤ 20) ⌝ }
+    requires { ⌜ (nodes ≤ 22) × (comments ≤ 20) ⌝ }
 {
-    let mut node_table: [u32; 20] = [7; 20];
+    let mut node_table: [u32; 22] = [7; 22];
     let mut comment_table: [u32; 20] = [7; 20];
     try_tables(
         text,
@@ -62,7 +62,7 @@ fn try_small(text: &[u8], nodes: usize, comments: usize)
 
 // Reads a text with room for 400 nodes, and writes the answer alone.
 fn try_long(text: &[u8]) {
-    let mut nodes: [u32; 3600] = [7; 3600];
+    let mut nodes: [u32; 4000] = [7; 4000];
     let mut comments: [u32; 0] = [];
     write_answer(reader::read(text, &mut nodes, &mut comments));
     io::write_all(STDOUT_FILENO, b"\n");
@@ -127,11 +127,11 @@ fn main() {
     try_types(33);
     try_blanks(65536);
     try_blanks(65537);
-    try_small(b"enum A{}", 20, 3);
-    try_small(b"enum A{}", 18, 0);
-    try_small(b"enum A{}", 17, 0);
-    try_small(b"#c\nenum A{}", 20, 9);
-    try_small(b"#c\nenum A{}", 18, 8);
-    try_small(b"#c\nenum A{}", 17, 8);
+    try_small(b"enum A{}", 22, 3);
+    try_small(b"enum A{}", 20, 0);
+    try_small(b"enum A{}", 19, 0);
+    try_small(b"#c\nenum A{}", 22, 9);
+    try_small(b"#c\nenum A{}", 20, 8);
+    try_small(b"#c\nenum A{}", 19, 8);
     try_small(b"enum A{", 0, 0);
 }

@@ -2,7 +2,7 @@
 use libc::STDIN_FILENO;
 use libc::STDOUT_FILENO;
 use parser::Answer;
-ghost use Prim.Native.Nat.{_+_, _≤_};
+ghost use Prim.Native.Nat.{_+_, _≤_, _<_};
 ghost use lib.ListN.{length};
 
 // Writes a blank and a number.
@@ -11,24 +11,28 @@ fn write_next(number: u32) {
     io::print_decimal(STDOUT_FILENO, number as u64);
 }
 
-// Writes the nine numbers of the record that starts at `at`.
-fn write_record(table: &[u32], at: usize)
-    requires { ⌜ at + 9 ≤ length (now table) ⌝ }
+// Writes the `width` numbers of the record that starts at `at`.
+fn write_record(table: &[u32], width: usize, at: usize)
+    requires { ⌜ (0 < width) × (at + width ≤ length (now table)) ⌝ }
 {
     io::print_decimal(STDOUT_FILENO, table[at] as u64);
-    for i in 1..9 {
+    for i in 1..width {
         write_next(table[at + i]);
     }
     io::write_all(STDOUT_FILENO, b"\n");
 }
 
-// Writes the first `count` records, those that the table holds.
-fn write_records(table: &[u32], count: u32) {
-    for i in 0..count {
-        let at = i as usize * 9;
-        if at + 9 <= table.len() {
-            write_record(table, at);
+// Writes the first `count` records of `width` numbers, those that the table holds.
+fn write_records(table: &[u32], width: usize, count: u32)
+    requires { ⌜ 0 < width ⌝ }
+{
+    let mut at: usize = 0;
+    for _ in 0..count {
+        if table.len() - at < width {
+            return;
         }
+        write_record(table, width, at);
+        at += width;
     }
 }
 
@@ -43,7 +47,7 @@ fn write_refusal(number: u32, place: u32, length: u32) {
 
 // Reads a text and writes what is answered.
 fn write_reading(text: &[u8]) {
-    let mut nodes: [u32; 8100] = [0; 8100];
+    let mut nodes: [u32; 9000] = [0; 9000];
     let mut comments: [u32; 4500] = [0; 4500];
     match reader::read(text, &mut nodes, &mut comments) {
         Answer::Refused {
@@ -60,8 +64,8 @@ fn write_reading(text: &[u8]) {
             io::print_decimal(STDOUT_FILENO, n as u64);
             write_next(c);
             io::write_all(STDOUT_FILENO, b"\n");
-            write_records(&nodes, n);
-            write_records(&comments, c);
+            write_records(&nodes, ast::NODE_WIDTH, n);
+            write_records(&comments, ast::COMMENT_WIDTH, c);
         }
     }
 }

@@ -11,10 +11,11 @@ ghost use Prim.Native.Nat.{_≤_};
 // One byte more than the longest text.
 const TEXT: usize = 65537;
 
-// Tables that hold every text: at most two nodes and one comment a byte, nine numbers each.
-const NODES: usize = 1179648;
+// Tables that hold every text: at most two nodes a byte, ten numbers each, and nine numbers for each comment that a node owns.
+// Such a comment has two bytes at least, as `#` and its line's end. The stack holds all of this, and has 8 MB as a rule.
+const NODES: usize = 1310720;
 
-const COMMENTS: usize = 589824;
+const COMMENTS: usize = 294912;
 
 // Six bytes for each of the longest text: an enum member of a letter and a comma takes 11 at indent 8.
 const PRINT: usize = 393216;

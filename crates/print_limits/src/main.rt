@@ -34,8 +34,8 @@ fn count_bytes(bytes: &[u8], start: usize) -> usize {
 // Writes what is not 0 past so many nodes, comments and bytes, and ends the line.
 fn write_past(nodes: &[u32], n: u32, comments: &[u32], c: u32, out: &[u8], bytes: usize) {
     io::write_all(STDOUT_FILENO, b" |");
-    write_next(count_numbers(nodes, n as usize * 9));
-    write_next(count_numbers(comments, c as usize * 9));
+    write_next(count_numbers(nodes, n as usize * ast::NODE_WIDTH));
+    write_next(count_numbers(comments, c as usize * ast::COMMENT_WIDTH));
     write_next(count_bytes(out, bytes));
     io::write_all(STDOUT_FILENO, b"\n");
 }
@@ -83,9 +83,9 @@ fn try_lent(text: &[u8], indent: u32, nodes: &mut [u32], comments: &mut [u32], o
 
 // Prints a text with tables of so many numbers, into so many bytes.
 fn try_small(text: &[u8], indent: u32, nodes: usize, comments: usize, bytes: usize)
-    requires { ⌜ (nodes ≤ 70) × (comments ≤ 20) × (bytes ≤ 50) ⌝ }
+    requires { ⌜ (nodes ≤ 77) × (comments ≤ 20) × (bytes ≤ 50) ⌝ }
 {
-    let mut node_table: [u32; 70] = [7; 70];
+    let mut node_table: [u32; 77] = [7; 77];
     let mut comment_table: [u32; 20] = [7; 20];
     let mut out: [u8; 50] = [7; 50];
     try_lent(
@@ -101,7 +101,7 @@ fn try_small(text: &[u8], indent: u32, nodes: usize, comments: usize, bytes: usi
 fn try_field(indent: u32, bytes: usize)
     requires { ⌜ bytes ≤ 50 ⌝ }
 {
-    try_small(b"struct A{1:required i32 a=5;}", indent, 70, 20, bytes);
+    try_small(b"struct A{1:required i32 a=5;}", indent, 77, 20, bytes);
 }
 
 // So many blanks.
@@ -109,12 +109,12 @@ fn try_blanks(count: usize, indent: u32)
     requires { ⌜ count ≤ 65537 ⌝ }
 {
     let space = [32u8; 65537];
-    try_small(&space[..count], indent, 70, 20, 50);
+    try_small(&space[..count], indent, 77, 20, 50);
 }
 
 // An enum with a comment: 2 nodes, 1 comment, 14 bytes.
 fn try_note(nodes: usize, comments: usize, bytes: usize)
-    requires { ⌜ (nodes ≤ 70) × (comments ≤ 20) × (bytes ≤ 50) ⌝ }
+    requires { ⌜ (nodes ≤ 77) × (comments ≤ 20) × (bytes ≤ 50) ⌝ }
 {
     try_small(b"#c\nenum A{}", 2, nodes, comments, bytes);
 }
@@ -128,13 +128,13 @@ fn main() {
     try_blanks(65537, 9);
     try_blanks(65536, 9);
     try_blanks(65536, 8);
-    try_small(b"\xff", 9, 70, 20, 50);
-    try_small(b"\xff", 8, 70, 20, 50);
-    try_note(17, 8, 13);
-    try_note(18, 8, 13);
-    try_note(18, 9, 13);
-    try_note(18, 9, 14);
-    try_small(b"enum A{", 2, 17, 8, 0);
-    try_small(b"", 2, 70, 20, 50);
+    try_small(b"\xff", 9, 77, 20, 50);
+    try_small(b"\xff", 8, 77, 20, 50);
+    try_note(19, 8, 13);
+    try_note(20, 8, 13);
+    try_note(20, 9, 13);
+    try_note(20, 9, 14);
+    try_small(b"enum A{", 2, 19, 8, 0);
+    try_small(b"", 2, 77, 20, 50);
     try_small(b"", 2, 0, 0, 0);
 }

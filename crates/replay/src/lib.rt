@@ -3,7 +3,7 @@
 // A list holds little-endian numbers of 4 bytes. That of answers (oracle/answers.list) has the count of texts, then for each text:
 //     its length, and its bytes
 //     the refusal's number (0: accepted), place and length
-//     if accepted, the counts of nodes and of comments, and nine numbers for each node, then for each comment;
+//     if accepted, the counts of nodes and of comments, ten numbers for each node, then nine for each comment;
 //     three prints, each its length and its bytes
 use libc::STDIN_FILENO;
 use libc::STDOUT_FILENO;
@@ -21,7 +21,7 @@ ghost use Rattle.replay.specs.Pair.{pairAt};
 pub const SPACE: usize = 66560;
 
 // Longer than both tables of each text of the list, and no whole number of records.
-pub const NODES: usize = 9005;
+pub const NODES: usize = 10005;
 
 pub const COMMENTS: usize = 1804;
 
@@ -83,19 +83,6 @@ pub fn read_number() -> u32 {
     number(&bytes, 0)
 }
 
-// Passes over the next record of the list.
-fn pass_record() {
-    let mut record = [0u8; 36];
-    io::read_full(STDIN_FILENO, &mut record);
-}
-
-// Passes over so many records of the list.
-pub fn pass_records(count: u32) {
-    for _ in 0..count {
-        pass_record();
-    }
-}
-
 // Reads the next part of the list, its length and its bytes, to the start of a space; answers the length, 0 if the space is too short.
 pub fn read_part(space: &mut [u8]) -> usize
     ensures { λ r. ⌜ Counts r (now (space .exit)) ⌝ }
@@ -107,15 +94,26 @@ pub fn read_part(space: &mut [u8]) -> usize
     io::read_full(STDIN_FILENO, &mut space[..length])
 }
 
-// Passes over the next part of the list.
-pub fn pass_part() {
+// Passes over so many bytes of the list.
+fn pass_bytes(count: usize) {
     let mut bytes = [0u8; 4096];
-    let mut left = read_number() as usize;
+    let mut left = count;
     while 4096 < left {
         io::read_full(STDIN_FILENO, &mut bytes);
         left -= 4096;
     }
     io::read_full(STDIN_FILENO, &mut bytes[..left]);
+}
+
+// Passes over the next part of the list.
+pub fn pass_part() {
+    pass_bytes(read_number() as usize);
+}
+
+// Passes over the records of so many nodes and of so many comments, numbers of 4 bytes.
+pub fn pass_records(nodes: u32, comments: u32) {
+    pass_bytes(nodes as usize * ast::NODE_WIDTH * 4);
+    pass_bytes(comments as usize * ast::COMMENT_WIDTH * 4);
 }
 
 // Whether a table is 0 from an index on.

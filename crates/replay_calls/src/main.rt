@@ -64,8 +64,7 @@ fn pass_answer() {
     }
     let nodes = replay::read_number();
     let comments = replay::read_number();
-    replay::pass_records(nodes);
-    replay::pass_records(comments);
+    replay::pass_records(nodes, comments);
     replay::pass_part();
     replay::pass_part();
     replay::pass_part();
@@ -95,11 +94,6 @@ fn number_at(numbers: &[u32], i: usize) -> u32 {
     if i < numbers.len() { numbers[i] } else { 0 }
 }
 
-// The numbers of so many records.
-fn width_of(records: u32) -> u32 {
-    if records < 65536 { records * 9 } else { ALL }
-}
-
 fn short(length: usize) -> u32 {
     if length < 4294967295 {
         length as u32
@@ -119,8 +113,8 @@ fn needs_of(text: &[u8], indent: u32) -> Needs {
             comments: c,
             bytes,
         } => Needs {
-            nodes: width_of(n),
-            comments: width_of(c),
+            nodes: short(n as usize * ast::NODE_WIDTH),
+            comments: short(c as usize * ast::COMMENT_WIDTH),
             bytes: short(bytes),
         },
         Printed::Refused {
@@ -128,7 +122,7 @@ fn needs_of(text: &[u8], indent: u32) -> Needs {
             place: _,
             length: _,
         } => Needs {
-            nodes: 27,
+            nodes: 30,
             comments: 18,
             bytes: 40,
         },

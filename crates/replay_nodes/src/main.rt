@@ -8,15 +8,18 @@ use replay::COMMENTS;
 use replay::NODES;
 use replay::SPACE;
 use replay::Tally;
+ghost use Prim.Native.Nat.{_<_};
 
 // Where the lines stand in a record, each behind the index.
 const START_LINE: usize = ast::column::START + 1;
 
 const END_LINE: usize = ast::column::END + 1;
 
-// Whether a number of a table is a line.
-fn is_line(i: usize) -> bool {
-    let column = i % ast::WIDTH;
+// Whether a number of a table is a line; its records have so many numbers.
+fn is_line(i: usize, width: usize) -> bool
+    requires { ⌜ 0 < width ⌝ }
+{
+    let column = i % width;
     if column == START_LINE {
         return true;
     }
@@ -24,24 +27,27 @@ fn is_line(i: usize) -> bool {
 }
 
 // Whether the number at an index of a table is rico's; in a text with CR LF a line may be another.
-fn same_number(table: &[u32], i: usize, number: u32, paired: bool) -> bool {
+fn same_number(table: &[u32], width: usize, i: usize, number: u32, paired: bool) -> bool
+    requires { ⌜ 0 < width ⌝ }
+{
     if table.len() <= i {
         return false;
     }
     if table[i] == number {
         return true;
     }
-    if paired { is_line(i) } else { false }
+    if paired { is_line(i, width) } else { false }
 }
 
-// Whether the next `count` records of the list stand in the table, and 0 past them.
-fn same_records(table: &[u32], count: u32, paired: bool) -> bool {
-    let end = count as usize * ast::WIDTH;
+// Whether the next `end` numbers of the list, records of `width` each, stand in the table, and 0 past them.
+fn same_records(table: &[u32], width: usize, end: usize, paired: bool) -> bool
+    requires { ⌜ 0 < width ⌝ }
+{
     let mut same = true;
     let mut i: usize = 0;
     while i < end {
         let number = replay::read_number();
-        if !same_number(table, i, number, paired) {
+        if !same_number(table, width, i, number, paired) {
             same = false;
         }
         i += 1;
@@ -102,8 +108,10 @@ fn same_reading(answer: Answer, nodes: &[u32], comments: &[u32], paired: bool) -
     let node_count = replay::read_number();
     let comment_count = replay::read_number();
     let counts = same_counts(answer, node_count, comment_count);
-    let node_records = same_records(nodes, node_count, paired);
-    let comment_records = same_records(comments, comment_count, paired);
+    let node_numbers = node_count as usize * ast::NODE_WIDTH;
+    let comment_numbers = comment_count as usize * ast::COMMENT_WIDTH;
+    let node_records = same_records(nodes, ast::NODE_WIDTH, node_numbers, paired);
+    let comment_records = same_records(comments, ast::COMMENT_WIDTH, comment_numbers, paired);
     replay::pass_part();
     replay::pass_part();
     replay::pass_part();

@@ -56,10 +56,10 @@ fn is_printed(text: &[u8], indent: u32, out: &mut [u8], print: &[u8]) -> bool {
     if bytes != print.len() {
         return false;
     }
-    if !replay::zero_from(&nodes, n as usize * 9) {
+    if !replay::zero_from(&nodes, n as usize * ast::NODE_WIDTH) {
         return false;
     }
-    if !replay::zero_from(&comments, c as usize * 9) {
+    if !replay::zero_from(&comments, c as usize * ast::COMMENT_WIDTH) {
         return false;
     }
     has_print(out, print)
@@ -189,8 +189,7 @@ fn compare_prints(text: &[u8], tally: Tally) -> Tally {
     replay::read_number();
     let nodes = replay::read_number();
     let comments = replay::read_number();
-    replay::pass_records(nodes);
-    replay::pass_records(comments);
+    replay::pass_records(nodes, comments);
     let first = compare_next_print(text, 0, tally);
     let second = compare_next_print(text, 2, first);
     compare_next_print(text, 8, second)

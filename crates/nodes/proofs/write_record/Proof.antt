@@ -6,10 +6,10 @@ use Rattle.nodes.proofs.write_record.Statement.{statement}
 use Rattle.nodes.proofs.write_record.Tie as tie
 
 abbrev Inv-loop : tie.InvT-loop
-Inv-loop table at i₀ t4 i = Unit
+Inv-loop table width at i₀ t4 i = Unit
 
 abbrev μ-loop : tie.MeasureT-loop
-μ-loop table at i₀ t4 i = 9 - i
+μ-loop table width at i₀ t4 i = width - i
 
 cast-print-decimal : tie.Need-cast-print-decimal Inv-loop μ-loop
 cast-print-decimal c = omega (arith, c .shared-slice-known2 .given (c .before .before .args .at))

@@ -10,10 +10,10 @@ zeros : (n : ℕ) → n ≡ length (replicate {A = ℕ} n 0)
 zeros n = sym (length-replicate {A = ℕ} n 0)
 
 slice-aggregate-print-with : tie.Need-slice-aggregate-print-with
-slice-aggregate-print-with c = zeros 1179648
+slice-aggregate-print-with c = zeros 1310720
 
 slice-aggregate-print-with-2 : tie.Need-slice-aggregate-print-with-2
-slice-aggregate-print-with-2 c = zeros 589824
+slice-aggregate-print-with-2 c = zeros 294912
 
 slice-aggregate-print-with-3 : tie.Need-slice-aggregate-print-with-3
 slice-aggregate-print-with-3 c = zeros 393216

@@ -5,10 +5,10 @@ use Rattle.replay_nodes.proofs.same_records.Statement.{statement}
 use Rattle.replay_nodes.proofs.same_records.Tie as tie
 
 abbrev Inv-loop : tie.InvT-loop
-Inv-loop table count paired end same₀ i₀ same i = Unit
+Inv-loop table width end paired same₀ i₀ same i = Unit
 
 abbrev μ-loop : tie.MeasureT-loop
-μ-loop table count paired end same₀ i₀ same i = end - i
+μ-loop table width end paired same₀ i₀ same i = end - i
 
 pub same-records-spec : {M : Type 1} → statement M
 same-records-spec =
@@ -16,7 +16,6 @@ same-records-spec =
     (tie.spec
     Inv-loop
     μ-loop
-    (λ c. search needs)
     (λ c. search needs)
     (λ c κs. search needs)
     (λ c κs. search needs)
