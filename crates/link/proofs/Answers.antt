@@ -1,6 +1,7 @@
 -- An answer as its numbers.
 --     place-small                               the place of 21 and of 22 is a number of 32 bits
---     check-answer, read-answer, print-answer   what each call answers and leaves, from what the code's answer says
+--     check-answer, read-answer, print-answer, move-answer
+--                                               what each call answers and leaves, from what the code's answer says
 use mathlib.Core.Path.{_≡_, refl, sym, ap, _∙_}
 use mathlib.Core.Bool.{Bool, true, false}
 use mathlib.Core.List.{List}
@@ -23,6 +24,9 @@ use Rattle.parser.specs.Read.{Reading}
 use Rattle.writer.specs.declared.Printed.{Printed}
 use Rattle.writer.specs.Write as W
 use Rattle.writer.specs.Write.{Printing}
+use Rattle.move_tables.specs.declared.Moved.{Moved}
+use Rattle.move_tables.specs.Moves as M
+use Rattle.move_tables.specs.Moves.{Moving}
 use Rattle.reader.proofs.Whole.{ill-small, unknown-small}
 use Rattle.link.specs.Told.{laid}
 
@@ -65,3 +69,10 @@ print-answer a b t u o r e l l′ ns h n k = (
   ap (λ (x : Printing). x .output) e,
   laid-same l l′ ns (ap W.said (sym h) ∙ ap (λ (x : Printing). x .says) e) n k,
 )
+
+pub moved-numbers : (a b : Moved) (l l′ ns : List ℕ) → a ≡ b → numbers (M.said b) ≡ ns → l′ ≡ laid ns l → l′ ≡ laid (numbers (M.said a)) l
+moved-numbers a b l l′ ns h n k = laid-same l l′ ns (ap M.said (sym h)) n k
+
+pub move-answer : (a : Moved) (o : List ℕ) (r : Moving) → M.told a o ≡ r → (l l′ : List ℕ) → l′ ≡ laid (numbers (M.said a)) l
+    → (o ≡ r .out) × (l′ ≡ laid (numbers (r .says)) l)
+move-answer a o r e l l′ k = (ap (λ (x : Moving). x .out) e, laid-same l l′ _ (ap (λ (x : Moving). x .says) e) refl k)

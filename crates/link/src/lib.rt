@@ -6,11 +6,13 @@ ghost use Rattle.lexer.specs.Outcome.{numbers};
 ghost use Rattle.lexer.specs.Check.{checked};
 ghost use Rattle.parser.specs.Read.{reading};
 ghost use Rattle.writer.specs.Write.{printing};
+ghost use Rattle.move_tables.specs.Moves.{widens, narrows, said};
 ghost use Rattle.place.specs.Place.{placeOf};
 ghost use Rattle.file.specs.Run.{requestsOf, memory, runs, Unaltered};
 ghost use Rattle.link.specs.Told.{laid, three};
 use lexer::Checked;
 use lexer::error;
+use move_tables::Moved;
 use parser::Answer;
 use writer::Printed;
 
@@ -98,6 +100,42 @@ pub extern "C" fn hirvelan_read(
             fill_u32(answer, &told);
         }
     }
+}
+
+// The answer's numbers of a move: 0 and the count of records, or a refusal's number, place and length, which is 0.
+fn tell_moved(answer: &mut [u32], moved: Moved)
+    ensures { λ _. ⌜ now (answer .exit) ≡ laid (numbers (said moved)) (now (answer .entry)) ⌝ }
+{
+    match moved {
+        Moved::Accepted { records } => {
+            let told = [0, records];
+            fill_u32(answer, &told);
+        }
+        Moved::Refused { number, place } => {
+            let told = [number, place, 0];
+            fill_u32(answer, &told);
+        }
+    }
+}
+
+// Moves a stored node table from nine numbers a record to ten. The answer's numbers: 0 and the count of records, or a refusal's number, place and length.
+#[no_mangle]
+pub extern "C" fn hirvelan_widen(table: &[u32], out: &mut [u32], answer: &mut [u32])
+    ensures { λ _. ⌜ (now (out .exit) ≡ widens (now (table .entry)) (now (out .entry)) .out)
+        × (now (answer .exit) ≡ laid (numbers (widens (now (table .entry)) (now (out .entry)) .says)) (now (answer .entry))) ⌝ }
+{
+    let moved = move_tables::widen(table, out);
+    tell_moved(answer, moved);
+}
+
+// Moves a node table from ten numbers a record to nine. The answer's numbers: as of hirvelan_widen.
+#[no_mangle]
+pub extern "C" fn hirvelan_narrow(table: &[u32], out: &mut [u32], answer: &mut [u32])
+    ensures { λ _. ⌜ (now (out .exit) ≡ narrows (now (table .entry)) (now (out .entry)) .out)
+        × (now (answer .exit) ≡ laid (numbers (narrows (now (table .entry)) (now (out .entry)) .says)) (now (answer .entry))) ⌝ }
+{
+    let moved = move_tables::narrow(table, out);
+    tell_moved(answer, moved);
 }
 
 // Where an offset of a text stands, any offset of any text. The place's numbers: line and column, from 1, and the offset, held to the text's end and to 65,536.

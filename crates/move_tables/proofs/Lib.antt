@@ -1,0 +1,11 @@
+pub mod Cases
+pub mod Back
+pub mod Forests
+pub mod Readings
+pub mod Lists
+pub mod Ancestors
+pub mod Endings
+pub mod WalkLaws
+pub mod Copying
+pub mod Results
+pub mod Answers
