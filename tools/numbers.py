@@ -4,7 +4,8 @@
 usage: tools/numbers.py [--check]
 
 Writes command/include/hirvelan_numbers.h and command/hirvelan/src/numbers.rs. With --check it writes nothing and compares them;
-exit status 1 if one of them and the code part. The definitions' names (specs/Kind of ast and token, specs/Error) are held to the code's as well.
+exit status 1 if one of them and the code part. The definitions' names (specs/Kind of ast and token, specs/Error) are held to the code's as well,
+and each width and limit of the tables to its other places (SIZES).
 """
 import os, re, sys
 
@@ -17,6 +18,14 @@ LISTS = [
 ]
 # the code and the definitions of what no user sees: the kinds of token
 WITHIN = [("crates/token/src/kind.rt", "crates/token/specs/Kind.antt")]
+# numbers that are written by hand in each language: the code's, and where else the same number stands
+CODE, SPECS, C, CRATE = r"pub const {}: usize = (\d+);", r"(?m)^{} = (\d+)$", r"#define HIRVELAN_{} (\d+)u", r"pub const {}: usize = ([\d_]+);"
+SIZES = [
+    ("crates/ast/src/lib.rt", "NODE_WIDTH", "crates/ast/specs/Records.antt", "nodeWidth"),
+    ("crates/ast/src/lib.rt", "COMMENT_WIDTH", "crates/ast/specs/Records.antt", "commentWidth"),
+    ("crates/ast/src/column.rt", "PAST", "crates/ast/specs/Column.antt", "Past"),
+    ("crates/move_tables/src/lib.rt", "MOST_RECORDS", "crates/move_tables/specs/Moves.antt", "mostRecords"),
+]
 HEADER = "command/include/hirvelan_numbers.h"
 RUST = "command/hirvelan/src/numbers.rs"
 
@@ -66,10 +75,18 @@ def defined():
         if code != specs:
             yield f"{there} and the code part: {sorted(set(code) ^ set(specs))}"
 
+def sizes():
+    """Where a width or a limit is not the code's."""
+    for here, name, there, defined in SIZES:
+        for file, form in ((there, SPECS.format(defined)), ("command/include/hirvelan.h", C.format(name)), ("command/hirvelan/src/lib.rs", CRATE.format(name))):
+            said, code = re.findall(form, text(file)), re.findall(CODE.format(name), text(here))
+            if len(code) != 1 or [number.replace("_", "") for number in said] != code:
+                yield f"{file}: {name} is {said}, the code's {code}"
+
 def main():
     if sys.argv[1:] not in ([], ["--check"]):
         sys.exit(__doc__)
-    wrong = list(defined())
+    wrong = list(defined()) + list(sizes())
     for file, lines in ((HEADER, header()), (RUST, rust())):
         wanted = "\n".join(lines) + "\n"
         if not sys.argv[1:]:
@@ -78,6 +95,7 @@ def main():
         elif not os.path.exists(file) or text(file) != wanted:
             wrong.append(f"{file} and the code part: run tools/numbers.py")
     count = sum(len(constants(file)) for file in [list_[3] for list_ in LISTS] + [here for here, _ in WITHIN])
+    count += len(SIZES)
     print("\n".join(wrong + [f"numbers: {count} names, {len(wrong)} wrong"]))
     sys.exit(1 if wrong else 0)
 

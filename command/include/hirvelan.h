@@ -6,7 +6,8 @@
  *
  * A slice is a pointer and a length. A length counts elements: bytes of a text or an output, numbers of a table or an answer.
  * An answer or a place of any length gets its numbers at the front, as many as it holds, and 0 behind them.
- * A record is nine numbers: kind, parent, flags, then index, line and column of start and of end.
+ * A record's numbers: kind, parent, flags, then index, line and column of start and of end. A node record has a tenth, the record number just past its last descendant;
+ * to jump over a node go to that record. docs/FORMAT.md says more.
  */
 #ifndef HIRVELAN_H
 #define HIRVELAN_H
@@ -26,9 +27,23 @@ typedef char hirvelan_needs_64_bits[sizeof(size_t) == 8 ? 1 : -1];
 /* The longest text that is read; a longer one is 20. */
 #define HIRVELAN_LONGEST 65536u
 
+/* The numbers of a node record and of a comment record. A table holds its length divided by that, rounded down. */
+#define HIRVELAN_NODE_WIDTH 10u
+#define HIRVELAN_COMMENT_WIDTH 9u
+
+/* Where the tenth number stands in a node record, from 0. */
+#define HIRVELAN_PAST 9u
+
 /* Tables that hold every text of n bytes, n at most HIRVELAN_LONGEST: at most two node records and one comment record for each byte (proved, crates/parser/proofs/Paid). */
-#define HIRVELAN_NODES(n) ((size_t)18 * (size_t)(n))
-#define HIRVELAN_COMMENTS(n) ((size_t)9 * (size_t)(n))
+#define HIRVELAN_NODES(n) ((size_t)2 * HIRVELAN_NODE_WIDTH * (size_t)(n))
+#define HIRVELAN_COMMENTS(n) ((size_t)HIRVELAN_COMMENT_WIDTH * (size_t)(n))
+
+/* The most records of a stored table that is moved (hirvelan_widen, hirvelan_narrow), the numbers of each in a table stored before there were ten,
+ * and outputs that hold a stored table of `length` numbers when it is moved. */
+#define HIRVELAN_MOST_RECORDS 65536u
+#define HIRVELAN_STORED_WIDTH 9u
+#define HIRVELAN_WIDENED(length) ((size_t)(length) / HIRVELAN_STORED_WIDTH * HIRVELAN_NODE_WIDTH)
+#define HIRVELAN_NARROWED(length) ((size_t)(length) / HIRVELAN_NODE_WIDTH * HIRVELAN_STORED_WIDTH)
 
 /* The checks before the grammar: 20, 21, 22. `answer` gets 0, or a refusal's number, place and length.
  * The caller sees to: no pointer is null, also if its length is 0; each is valid for its length; answer is aligned and does not overlap the text. */
@@ -56,12 +71,23 @@ void hirvelan_place(const uint8_t *text, size_t text_length, uint32_t offset, ui
  * The caller sees to: no pointer is null, also if its length is 0; each is valid for its length and aligned; space, nodes, comments and out overlap neither each other nor the requests. */
 size_t hirvelan_run(uint8_t *space, size_t space_length, size_t file, uint32_t indent, const uint32_t *requests, size_t requests_length, uint32_t *nodes, size_t nodes_length, uint32_t *comments, size_t comments_length, uint8_t *out, size_t out_length);
 
+/* Stored node tables: hirvelan_widen moves a table of nine numbers a record to ten, hirvelan_narrow one of ten back to nine. Each undoes the other, given room.
+ * `answer` gets 0, the number of records, 0; or a refusal's number, place and 0. `table` stays as it is. After a refusal the whole output is zero, else zero behind the last record.
+ * 33 (HIRVELAN_REFUSED_NOT_MOVABLE), place 0: the length is no multiple of the records' width, or there are over HIRVELAN_MOST_RECORDS.
+ * 33, place the number of the first record whose parent is bad: good is 4294967295, the record just before, or an ancestor of that one; for the first record 4294967295 alone.
+ * 33, hirvelan_narrow only, parents being good: place the number of the first record whose tenth number is not the record number just past its last descendant.
+ * 24 (HIRVELAN_REFUSED_NODES_FULL), place 0: the output is too short. HIRVELAN_WIDENED and HIRVELAN_NARROWED give the length that is enough.
+ * Lend the stored records alone: zeros that stand behind them would count as records.
+ * The caller sees to: no pointer is null, also if its length is 0; each is valid for its length and aligned; out and answer overlap neither each other nor the table, so no table is moved in place. */
+void hirvelan_widen(const uint32_t *table, size_t table_length, uint32_t *out, size_t out_length, uint32_t *answer, size_t answer_length);
+void hirvelan_narrow(const uint32_t *table, size_t table_length, uint32_t *out, size_t out_length, uint32_t *answer, size_t answer_length);
+
 /* ---- wrappers. Null with length 0 is an empty slice. They give HIRVELAN_OK, or say why the library was not called.
  * What they can't test either: that a pointer is valid for its length. */
 
 enum { HIRVELAN_OK = 0, HIRVELAN_NULL = -1, HIRVELAN_UNALIGNED = -2, HIRVELAN_OVERLAP = -3, HIRVELAN_LENGTH = -4 };
 
-/* number 0: accepted, with counts. Else refused, with place (a byte offset) and length. */
+/* number 0: accepted, with counts. Else refused, with place (a byte offset; where a table is moved, a record's number) and length. */
 typedef struct {
     uint32_t number, nodes, comments, place, length;
     uint64_t bytes;
@@ -194,6 +220,39 @@ static inline int hirvelan_run_safe(uint8_t *space, size_t space_length, size_t 
     if (fault) return fault;
     *length = hirvelan_run(space ? space : &nothing[0], space_length, file, indent, requests ? &requests->prints : &empty[0], 4 * count, nodes ? nodes : &empty[1], nodes_length, comments ? comments : &empty[2], comments_length, out ? out : &nothing[1], out_length);
     return HIRVELAN_OK;
+}
+
+/* Both moves: what the wrappers below share. */
+static inline int hirvelan_move_safe(int widens, const uint32_t *table, size_t table_length, uint32_t *out, size_t out_length, hirvelan_answer *answer) {
+    static const uint32_t none = 0;
+    uint32_t empty = 0, said[3] = {0, 0, 0};
+    hirvelan_part parts[2];
+    int fault = hirvelan_part_of(table, table_length, 4, &parts[0]);
+    if (!fault) fault = hirvelan_part_of(out, out_length, 4, &parts[1]);
+    if (!fault) fault = hirvelan_apart(parts, 2);
+    if (!fault && !answer) fault = HIRVELAN_NULL;
+    if (fault) return fault;
+    if (widens)
+        hirvelan_widen(table ? table : &none, table_length, out ? out : &empty, out_length, said, 3);
+    else
+        hirvelan_narrow(table ? table : &none, table_length, out ? out : &empty, out_length, said, 3);
+    answer->number = said[0];
+    answer->nodes = said[0] ? 0 : said[1];
+    answer->comments = 0;
+    answer->place = said[0] ? said[1] : 0;
+    answer->length = 0;
+    answer->bytes = 0;
+    return HIRVELAN_OK;
+}
+
+/* Tests: null, alignment, overlap. `place` is the number of a record. */
+static inline int hirvelan_widen_safe(const uint32_t *table, size_t table_length, uint32_t *out, size_t out_length, hirvelan_answer *answer) {
+    return hirvelan_move_safe(1, table, table_length, out, out_length, answer);
+}
+
+/* The same, back. */
+static inline int hirvelan_narrow_safe(const uint32_t *table, size_t table_length, uint32_t *out, size_t out_length, hirvelan_answer *answer) {
+    return hirvelan_move_safe(0, table, table_length, out, out_length, answer);
 }
 
 #ifdef __cplusplus

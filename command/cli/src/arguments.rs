@@ -23,7 +23,7 @@ print         prints each file's definitions in one style, to standard output
   -l          only names the files whose print differs
   -d          only shows how the print differs, as a patch
   --indent N  spaces a level, 0 to 8; 2 if not given
-nodes         lists a file's records: counts, then nine numbers a line, nodes before comments
+nodes         lists a file's records: counts, then a line for each node, ten numbers, and for each comment, nine
 --json        one line for each file, for other programs
 
 FILE is a file, a folder (all *.thrift in it and below, none whose name starts with a dot), or - for standard input.

@@ -147,6 +147,7 @@ fn general(number: u32) -> Words {
         refusal::COMMENTS_FULL => ("the file has more comments than the table holds", REPORT),
         refusal::INDENT_TOO_WIDE => ("the indent is over 8", "Give --indent a number from 0 to 8."),
         refusal::OUTPUT_FULL => ("the print is longer than the output", REPORT),
+        refusal::NOT_MOVABLE => ("a stored table can't be moved", REPORT),
         _ => ("the library gave an unknown number", REPORT),
     };
     Words { wrong, advice }
@@ -154,7 +155,7 @@ fn general(number: u32) -> Words {
 
 /// The refusals that are about the whole text: there is no place to show.
 pub fn has_place(number: u32) -> bool {
-    !matches!(number, refusal::TEXT_TOO_LONG | refusal::NODES_FULL | refusal::COMMENTS_FULL | refusal::INDENT_TOO_WIDE | refusal::OUTPUT_FULL)
+    !matches!(number, refusal::TEXT_TOO_LONG | refusal::NODES_FULL | refusal::COMMENTS_FULL | refusal::INDENT_TOO_WIDE | refusal::OUTPUT_FULL | refusal::NOT_MOVABLE)
 }
 
 /// A name for characters that are hard to see or to tell apart, and come along when text is pasted.

@@ -47,7 +47,7 @@ impl Object {
         self.member(name, if value { "true" } else { "false" })
     }
 
-    pub fn rows(self, name: &str, rows: &[hirvelan::Record]) -> Object {
+    pub fn rows<const WIDTH: usize>(self, name: &str, rows: &[[u32; WIDTH]]) -> Object {
         let rows: Vec<String> = rows.iter().map(|row| format!("[{}]", row.map(|n| n.to_string()).join(","))).collect();
         self.member(name, &format!("[{}]", rows.join(",")))
     }

@@ -12,8 +12,20 @@ mod raw;
 /// The longest text that is read; a longer one is refused with 20.
 pub const LONGEST: usize = 65_536;
 
-/// The numbers of a record: kind, parent, flags, then index, line and column of start and of end.
-pub const WIDTH: usize = 9;
+/// The numbers of a comment record: kind, owner, flags, then index, line and column of start and of end.
+pub const COMMENT_WIDTH: usize = 9;
+
+/// The numbers of a node record: the same with its parent, and a tenth, at `PAST`.
+pub const NODE_WIDTH: usize = 10;
+
+/// Where the tenth number of a node record stands, from 0: the record number just past its last descendant. To jump over a node go to that record.
+pub const PAST: usize = 9;
+
+/// The numbers of a record of a table that was stored before there were ten.
+pub const STORED_WIDTH: usize = 9;
+
+/// The most records of a stored table that is moved.
+pub const MOST_RECORDS: usize = 65_536;
 
 /// Proved for each token (`crates/parser/proofs/Paid`): at most two node records and one comment record.
 const NODES_A_BYTE: usize = 2;
@@ -21,11 +33,11 @@ const NODES_A_BYTE: usize = 2;
 /// Where doubling the output ends.
 const LONGEST_PRINT: usize = 1 << 30;
 
-/// Why a text is refused, by document 01's number.
+/// Why a text is refused, or a stored table, by its number (docs/FORMAT.md).
 #[derive(Clone, Copy, Debug, PartialEq, Eq)]
 pub struct Refusal {
     pub number: u32,
-    /// The byte offset, from 0.
+    /// The byte offset, from 0; of a stored table, the number of a record.
     pub place: u32,
     pub length: u32,
 }
@@ -39,14 +51,36 @@ pub struct Place {
     pub offset: u32,
 }
 
-/// One record.
-pub type Record = [u32; WIDTH];
+/// One node record.
+pub type Node = [u32; NODE_WIDTH];
+
+/// One comment record.
+pub type Comment = [u32; COMMENT_WIDTH];
 
 /// Both tables of a text that is accepted.
 #[derive(Clone, Debug, PartialEq, Eq)]
 pub struct Reading {
-    pub nodes: Vec<Record>,
-    pub comments: Vec<Record>,
+    pub nodes: Vec<Node>,
+    pub comments: Vec<Comment>,
+}
+
+impl Reading {
+    /// The numbers of the definitions' records, from one to the next without a look at what lies between.
+    pub fn definitions(&self) -> impl Iterator<Item = usize> + '_ {
+        self.siblings(0, self.nodes.len())
+    }
+
+    /// The same of the children of the node with this number; none if there is no such node.
+    pub fn children(&self, node: usize) -> impl Iterator<Item = usize> + '_ {
+        let past = self.nodes.get(node).map_or(0, |record| record[PAST] as usize);
+        self.siblings(node + 1, past)
+    }
+
+    /// The node with this number, if it lies before `past`, and its next siblings up to there.
+    fn siblings(&self, first: usize, past: usize) -> impl Iterator<Item = usize> + '_ {
+        let within = move |at: usize| (at < past).then_some(at);
+        std::iter::successors(within(first), move |at| within(self.nodes[*at][PAST] as usize))
+    }
 }
 
 /// A call of `run`: a reading or a printing, and how many numbers of each table and bytes of the output it is lent, all if there are fewer.
@@ -61,12 +95,12 @@ pub struct Request {
 /// Room for the records of every text as long as this one.
 fn tables(text: &[u8]) -> (Vec<u32>, Vec<u32>) {
     let bytes = text.len().min(LONGEST);
-    (vec![0; NODES_A_BYTE * WIDTH * bytes], vec![0; WIDTH * bytes])
+    (vec![0; NODES_A_BYTE * NODE_WIDTH * bytes], vec![0; COMMENT_WIDTH * bytes])
 }
 
 /// The first records of a table.
-fn records(table: &[u32], count: usize) -> Vec<Record> {
-    table.chunks_exact(WIDTH).take(count).map(|row| row.try_into().expect("a row has nine numbers")).collect()
+fn records<const WIDTH: usize>(table: &[u32], count: usize) -> Vec<[u32; WIDTH]> {
+    table.chunks_exact(WIDTH).take(count).map(|row| row.try_into().expect("a row has so many numbers")).collect()
 }
 
 /// The checks before the grammar: 20, 21, 22. They need no tables.
@@ -120,6 +154,30 @@ pub fn run(space: &mut [u8], file: usize, indent: u32, requests: &[Request], nod
     raw::run(space, file, indent, &numbers, nodes, comments, out)
 }
 
+/// A stored node table of nine numbers a record, moved to ten. `narrow` undoes it.
+/// 33 if it can't be moved: with place 0 if the length is no multiple of nine, or there are more than `MOST_RECORDS` records; else with the number of the first record
+/// whose parent is bad. Good is 4294967295, the record just before, or an ancestor of that one. The output is long enough, so 24 does not occur.
+/// Hand over the stored records alone: zeros that stand behind them would count as records.
+pub fn widen(table: &[u32]) -> Result<Vec<u32>, Refusal> {
+    let mut out = vec![0; (table.len() / STORED_WIDTH).min(MOST_RECORDS) * NODE_WIDTH];
+    moved(raw::widen(table, &mut out), out)
+}
+
+/// A node table of ten numbers a record, moved to nine. `widen` undoes it.
+/// 33 as there, by ten numbers a record; and if all parents are good, with the number of the first record whose tenth number is not the record number just past its last descendant.
+pub fn narrow(table: &[u32]) -> Result<Vec<u32>, Refusal> {
+    let mut out = vec![0; (table.len() / NODE_WIDTH).min(MOST_RECORDS) * STORED_WIDTH];
+    moved(raw::narrow(table, &mut out), out)
+}
+
+/// What a move gave.
+fn moved([number, place, _]: [u32; 3], out: Vec<u32>) -> Result<Vec<u32>, Refusal> {
+    if number != 0 {
+        return Err(Refusal { number, place, length: 0 });
+    }
+    Ok(out)
+}
+
 #[cfg(test)]
 mod tests {
     use super::*;
@@ -138,15 +196,15 @@ mod tests {
         space[..text.len()].copy_from_slice(text);
         let (mut nodes, mut comments, mut out) = (vec![7; 80], vec![7; 10], vec![7; 60]);
         // 24 and 27 leave the file; what the calls were not lent stays too
-        let length = run(&mut space, text.len(), 2, &[call(true, 62, ALL, ALL), call(true, 63, 0, 37)], &mut nodes, &mut comments, &mut out);
+        let length = run(&mut space, text.len(), 2, &[call(true, 69, ALL, ALL), call(true, 70, 0, 37)], &mut nodes, &mut comments, &mut out);
         assert_eq!((length, &space[..29], &space[29..]), (29, &text[..], &[7; 21][..]));
-        assert_eq!((&nodes[..63], &nodes[63..], &comments[..], &out[..]), (&[0; 63][..], &[7; 17][..], &[0; 10][..], &[0; 60][..]));
+        assert_eq!((&nodes[..70], &nodes[70..], &comments[..], &out[..]), (&[0; 70][..], &[7; 10][..], &[0; 10][..], &[0; 60][..]));
         // a printing is kept, with zeros behind it
-        let length = run(&mut space, length, 2, &[call(false, ALL, ALL, 0), call(true, 63, 0, 38)], &mut nodes, &mut comments, &mut out);
+        let length = run(&mut space, length, 2, &[call(false, ALL, ALL, 0), call(true, 70, 0, 38)], &mut nodes, &mut comments, &mut out);
         assert_eq!((length, &space[..38], &space[38..]), (38, &print[..], &[0; 12][..]));
         assert_eq!((&out[..38], nodes[0]), (&print[..], 7));
         // and stays
-        let again = run(&mut space, length, 2, &[call(true, ALL, ALL, ALL), call(false, 0, 0, 0), call(true, 63, 9, 38)], &mut nodes, &mut comments, &mut out);
+        let again = run(&mut space, length, 2, &[call(true, ALL, ALL, ALL), call(false, 0, 0, 0), call(true, 70, 9, 38)], &mut nodes, &mut comments, &mut out);
         assert_eq!((again, &space[..38], &space[38..]), (38, &print[..], &[0; 12][..]));
     }
 
@@ -189,10 +247,103 @@ mod tests {
     fn records_of_the_listing() {
         let reading = read(b"struct A{1:i32 a}").unwrap();
         assert_eq!((reading.nodes.len(), reading.comments.len()), (6, 0));
-        assert_eq!(reading.nodes[0], [7, 4_294_967_295, 0, 0, 1, 1, 17, 1, 18]);
-        assert_eq!(reading.nodes[5], [16, 2, 0, 15, 1, 16, 16, 1, 17]);
+        assert_eq!(reading.nodes[0], [7, 4_294_967_295, 0, 0, 1, 1, 17, 1, 18, 6]);
+        assert_eq!(reading.nodes[5], [16, 2, 0, 15, 1, 16, 16, 1, 17, 6]);
+        assert_eq!(reading.nodes.iter().map(|n| n[PAST]).collect::<Vec<_>>(), [6, 2, 6, 4, 5, 6]);
         let reading = read(b"struct A{required i32 a}").unwrap();
-        assert_eq!((reading.nodes.len(), reading.nodes[2]), (5, [12, 0, 1, 9, 1, 10, 23, 1, 24]));
+        assert_eq!((reading.nodes.len(), reading.nodes[2]), (5, [12, 0, 1, 9, 1, 10, 23, 1, 24, 5]));
+        let reading = read(b"#c\nenum A{}").unwrap();
+        assert_eq!(reading.comments, [[32, 0, 0, 0, 1, 1, 2, 1, 3]]);
+    }
+
+    #[test]
+    fn from_one_to_the_next() {
+        let reading = read(b"const list<i8> X=[1,[2,3],4] struct A{1:i32 a(b='c'),2:i8 d} enum E{}").unwrap();
+        let kinds = |numbers: Vec<usize>| numbers.iter().map(|at| reading.nodes[*at][0]).collect::<Vec<_>>();
+        let definitions: Vec<usize> = reading.definitions().collect();
+        assert_eq!((kinds(definitions.clone()), &definitions[..]), (vec![4, 7, 6], &[0, 10, 24][..]));
+        assert_eq!(kinds(reading.children(0).collect()), [20, 16, 29]);
+        assert_eq!(kinds(reading.children(10).collect()), [16, 12, 12]);
+        assert_eq!(kinds(reading.children(24).collect()), [16]);
+        // every node is reached once, each by its parent's number
+        for (at, node) in reading.nodes.iter().enumerate() {
+            assert!(reading.children(at).all(|child| reading.nodes[child][1] as usize == at));
+            assert_eq!(reading.children(at).count(), reading.nodes.iter().filter(|n| n[1] as usize == at).count(), "of node {at}, {node:?}");
+        }
+        assert_eq!((reading.children(1).count(), reading.children(2).count(), reading.children(1000).count()), (1, 0, 0));
+        assert_eq!(read(b"").unwrap().definitions().count(), 0);
+    }
+
+    /// A table of nine numbers a record with these parents, and one of ten.
+    fn nine(parents: &[u32]) -> Vec<u32> {
+        (0..).zip(parents).flat_map(|(at, parent)| [at + 3, *parent, 0, 5, 6, 7, 8, 9, at]).collect()
+    }
+
+    fn ten(parents: &[u32], pasts: &[u32]) -> Vec<u32> {
+        nine(parents).chunks(9).zip(pasts).flat_map(|(row, past)| [row, &[*past]].concat()).collect()
+    }
+
+    fn refused(place: u32) -> Result<Vec<u32>, Refusal> {
+        Err(Refusal { number: numbers::refusal::NOT_MOVABLE, place, length: 0 })
+    }
+
+    #[test]
+    fn stored_tables_there_and_back() {
+        for (parents, pasts) in [
+            (&[ALL, 0, 0, 2, 2, 2][..], &[6, 2, 6, 4, 5, 6][..]),
+            (&[ALL, 0, 1, 2, 0, ALL, 5], &[5, 4, 4, 4, 5, 7, 7]),
+            (&[ALL, ALL, ALL], &[1, 2, 3]),
+            (&[ALL], &[1]),
+            (&[], &[]),
+        ] {
+            assert_eq!(widen(&nine(parents)), Ok(ten(parents, pasts)));
+            assert_eq!(narrow(&ten(parents, pasts)), Ok(nine(parents)));
+        }
+        // the records of a reading
+        let reading = read(b"service S{void f(i32 a)throws(B b)}struct A{required map<i8,list<i8>> a={1:[2]}}").unwrap();
+        let stored: Vec<u32> = reading.nodes.iter().flat_map(|n| n[..STORED_WIDTH].to_vec()).collect();
+        assert_eq!(widen(&stored), Ok(reading.nodes.concat()));
+        assert_eq!(narrow(&reading.nodes.concat()), Ok(stored));
+    }
+
+    #[test]
+    fn stored_tables_that_are_not_moved() {
+        // a length, then a parent, then a tenth number
+        assert_eq!(widen(&nine(&[0])[..8]), refused(0));
+        assert_eq!(widen(&ten(&[ALL, 0], &[2, 2])), refused(0));
+        assert_eq!(narrow(&nine(&[ALL, 0])), refused(0));
+        assert_eq!(widen(&nine(&[0])), refused(0));
+        assert_eq!(widen(&nine(&[ALL, 1])), refused(1));
+        assert_eq!(widen(&nine(&[ALL, 0, 0, 1])), refused(3));
+        assert_eq!(widen(&nine(&[ALL, ALL, 0])), refused(2));
+        assert_eq!(widen(&nine(&[ALL, 0, 7, 9])), refused(2));
+        assert_eq!(narrow(&ten(&[ALL, 0, 0], &[3, 3, 3])), refused(1));
+        assert_eq!(narrow(&ten(&[ALL, 0, 0], &[3, 2, 0])), refused(2));
+        assert_eq!(narrow(&ten(&[ALL, 0, 5], &[0, 2, 3])), refused(2), "a bad parent comes before any bad tenth number");
+        // 65,536 records and one more
+        let most = nine(&[ALL; MOST_RECORDS]);
+        assert_eq!(widen(&most).map(|moved| (moved.len(), moved[655_359])), Ok((655_360, 65_536)));
+        assert_eq!(widen(&nine(&[ALL; MOST_RECORDS + 1])), refused(0));
+        assert_eq!(narrow(&vec![1; 10 * (MOST_RECORDS + 1)]), refused(0));
+    }
+
+    #[test]
+    fn a_move_leaves_nothing_in_its_output() {
+        let (short, long) = (nine(&[ALL, 0]), ten(&[ALL, 0], &[2, 2]));
+        let mut out = vec![7; 23];
+        assert_eq!((raw::widen(&short, &mut out), &out[..20], &out[20..]), ([0, 2, 0], &long[..], &[0; 3][..]));
+        assert_eq!((raw::narrow(&long, &mut out), &out[..18], &out[18..]), ([0, 2, 0], &short[..], &[0; 5][..]));
+        // one number short, none, a bad table: all of it is 0
+        for (table, room, said) in [(&short[..], 19, [24, 0, 0]), (&short, 0, [24, 0, 0]), (&short[..17], 23, [33, 0, 0]), (&nine(&[ALL, 1]), 23, [33, 1, 0])] {
+            out.fill(7);
+            assert_eq!(raw::widen(table, &mut out[..room]), said);
+            assert_eq!((&out[..room], &out[room..]), (&vec![0; room][..], &vec![7; 23 - room][..]));
+        }
+        for (table, room, said) in [(&long[..], 17, [24, 0, 0]), (&long[..19], 23, [33, 0, 0]), (&ten(&[ALL, 0], &[2, 1]), 5, [33, 1, 0])] {
+            out.fill(7);
+            assert_eq!(raw::narrow(table, &mut out[..room]), said);
+            assert_eq!((&out[..room], &out[room..]), (&vec![0; room][..], &vec![7; 23 - room][..]));
+        }
     }
 
     #[test]

@@ -12,6 +12,8 @@ extern "C" {
         space: *mut u8, space_length: usize, file: usize, indent: u32, requests: *const u32, requests_length: usize,
         nodes: *mut u32, nodes_length: usize, comments: *mut u32, comments_length: usize, out: *mut u8, out_length: usize,
     ) -> usize;
+    fn hirvelan_widen(table: *const u32, length: usize, out: *mut u32, out_length: usize, answer: *mut u32, answer_length: usize);
+    fn hirvelan_narrow(table: *const u32, length: usize, out: *mut u32, out_length: usize, answer: *mut u32, answer_length: usize);
 }
 
 // In each call below: a slice's pointer is not null, aligned and valid for its length, an empty one's too;
@@ -58,4 +60,16 @@ pub fn run(space: &mut [u8], file: usize, indent: u32, requests: &[u32], nodes: 
             nodes.as_mut_ptr(), nodes.len(), comments.as_mut_ptr(), comments.len(), out.as_mut_ptr(), out.len(),
         )
     }
+}
+
+pub fn widen(table: &[u32], out: &mut [u32]) -> [u32; 3] {
+    let mut answer = [0; 3];
+    unsafe { hirvelan_widen(table.as_ptr(), table.len(), out.as_mut_ptr(), out.len(), answer.as_mut_ptr(), answer.len()) };
+    answer
+}
+
+pub fn narrow(table: &[u32], out: &mut [u32]) -> [u32; 3] {
+    let mut answer = [0; 3];
+    unsafe { hirvelan_narrow(table.as_ptr(), table.len(), out.as_mut_ptr(), out.len(), answer.as_mut_ptr(), answer.len()) };
+    answer
 }
