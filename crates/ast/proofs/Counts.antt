@@ -4,11 +4,13 @@
 --     row-width, node-row-width   each record has as many numbers as its width says
 --     concat-width                so a table of records has as many times that
 --     filled-length               and is as long afterwards as it was lent
+--     chunks-rows                 and its first records are those
 use mathlib.Core.Path.{_≡_, refl, ap}
-use mathlib.Core.List.{List, [], _∷_, _++_}
+use mathlib.Core.List.{List, [], _∷_, _++_, append-assoc}
 use Prim.Native.Nat.{ℕ, suc, _+_, _*_, _-_, _≤_}
 use native.Mathlib.Omega.{arith}
 use lib.ListN.{length, replicate, length-append, length-replicate}
+use lib.Seq.{take-at, drop-at}
 use Rattle.lexer.specs.declared.location.LOC.{LOC}
 use Rattle.lexer.specs.Tokens.{Lexeme, lexeme}
 use Rattle.ast.specs.Ast.{Definition}
@@ -30,6 +32,7 @@ use Rattle.ast.specs.Records.{
   commentRowsOf,
   forest,
   nodeRows,
+  chunks,
   notes,
   concat,
   filled,
@@ -145,3 +148,10 @@ filled-length rs table h =
 pub cleared-same : (t r : List ℕ) → length r ≡ length t → cleared r ≡ cleared t
 unfolding cleared
 cleared-same t r e = ap (λ (n : ℕ). replicate n 0) e
+
+-- the rows at the front of a table are its first records
+pub chunks-rows : {w : ℕ} {rs : List (List ℕ)} (rest : List ℕ) → All (Wide w) rs → chunks w (length rs) (concat rs ++ rest) ≡ rs
+unfolding chunks concat
+chunks-rows rest anil = refl
+chunks-rows {w} rest (acons {x = r} {xs = rs} h hs) =
+    rw (append-assoc r (concat rs) rest, take-at r (concat rs ++ rest) w h, drop-at r (concat rs ++ rest) w h, chunks-rows rest hs)

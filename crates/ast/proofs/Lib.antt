@@ -1,3 +1,4 @@
+pub mod Bools
 pub mod Forget
 pub mod Drops
 pub mod Counts

@@ -1,8 +1,8 @@
 -- The records of document 01, with the tenth number of document 02 (Change 7): trees laid out as rows of numbers, and the tables that hold them.
 use mathlib.Core.Bool.{cond}
 use mathlib.Core.List.{List, [], _∷_, _++_}
-use Prim.Native.Nat.{ℕ, suc, _+_, _-_, _/_}
-use lib.ListN.{length, replicate}
+use Prim.Native.Nat.{ℕ, suc, zero, _+_, _-_, _/_}
+use lib.ListN.{length, take, drop, replicate}
 use Rattle.token.specs.Code.{is}
 use Rattle.token.specs.declared.Token.the-variants as T
 use Rattle.lexer.specs.declared.location.LOC.{LOC}
@@ -79,6 +79,11 @@ notes ds = commentRowsOf (forest ds) 0
 -- how many records of so many numbers a table holds
 unfoldable pub room : ℕ → List ℕ → ℕ
 room width table = length table / width
+
+-- its first n records
+unfoldable pub chunks : ℕ → ℕ → List ℕ → List (List ℕ)
+chunks width zero table = []
+chunks width (suc n) table = take width table ∷ chunks width n (drop width table)
 
 unfoldable pub concat : List (List ℕ) → List ℕ
 concat [] = []

@@ -20,7 +20,7 @@ use Rattle.ast.specs.Ast.{Definition, Include, CppInclude, Namespace, Const, Ty
 use Rattle.ast.specs.Move.{moveL, moves}
 use Rattle.ast.proofs.Forget.{bares}
 use Rattle.parser.specs.Steps.{place}
-use Rattle.parser.proofs.Sure.{final}
+use Rattle.parser.specs.Order.{final}
 use Rattle.parser.proofs.Ended.{Far}
 use Rattle.writer.specs.Print.{Piece, keyword, writeComment, writeComments, structureKeyword, writeDefinition, writeEach, pieces}
 use Rattle.writer.proofs.Toks.{toks}

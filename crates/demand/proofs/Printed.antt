@@ -1,5 +1,4 @@
 -- The print of a text that is accepted: it passes 20 to 22, and its tokens, without their places, read as the definitions that were printed.
---     taken-means    what acceptance says of the text
 --     well-read      its definitions are well formed
 --     print-fine     its print passes 20 to 22
 --     print-reads    its print's tokens read back
@@ -11,7 +10,7 @@ use mathlib.Core.List.{List, []}
 use Prim.Native.Nat.{ℕ, _≤_}
 use lib.ListN.{length}
 use Rattle.token.specs.Breaks.{Bytes}
-use Rattle.lexer.specs.Outcome.{Outcome, accepted, refused}
+use Rattle.lexer.specs.Outcome.{accepted}
 use Rattle.lexer.specs.declared.location.LOC.{LOC}
 use Rattle.lexer.specs.Location.{between, spanOf, opening}
 use Rattle.lexer.specs.Cuts.{cuts}
@@ -19,17 +18,18 @@ use Rattle.lexer.specs.Tokens.{tokens}
 use Rattle.lexer.specs.Check.{checked}
 use Rattle.utf8.specs.Found.{found}
 use Rattle.lexer.proofs.CheckLaws.{fine}
-use Rattle.lexer.proofs.Ascii.{fine-means}
 use Rattle.ast.specs.Ast.{Definition}
 use Rattle.ast.specs.Lists.{maps, All, anil}
 use Rattle.ast.specs.Drop.{dropParams}
 use Rattle.ast.specs.Move.{moves}
 use Rattle.ast.proofs.Forget.{nowhere, bares, forget}
-use Rattle.parser.specs.Steps.{St, pos, Res, ok, no}
+use Rattle.parser.specs.Steps.{pos, Res, ok, no}
 use Rattle.parser.specs.Definitions.{parseDocument}
 use Rattle.parser.specs.Read.{parsed, answered, outcomeBy, outcome}
+use Rattle.parser.proofs.Taken.{taken-means}
 use Rattle.parser.proofs.Wf.{WfDefinition, most}
-use Rattle.parser.proofs.Sure.{Some, good, final, sure-ok, document-s}
+use Rattle.parser.specs.Order.{final}
+use Rattle.parser.proofs.Sure.{Some, good, sure-ok, document-s}
 use Rattle.parser.proofs.Same.{moveS, moveR, bareR}
 use Rattle.parser.proofs.Ended.{Far, parse-same}
 use Rattle.writer.specs.Print.{pieces, printed}
@@ -39,38 +39,6 @@ use Rattle.writer.proofs.Apart.{pieces-apart}
 use Rattle.writer.proofs.Back.{document-rt}
 use Rattle.demand.proofs.Good.{good-tokens}
 use Rattle.demand.proofs.Last.{print-far}
-
--- a text passes 20 to 22, and its tokens read as ds
-pub record Taken (t : List ℕ) (ds : List Definition) : Type 0 where
-  pub fine : checked t ≡ accepted []
-  pub after : St
-  pub reads : parsed t ≡ ok ds after
-
-accepts : Outcome (List Definition) → Bool
-accepts (accepted ds) = true
-accepts (refused e p n) = false
-
-definitions : Outcome (List Definition) → List Definition
-definitions (accepted ds) = ds
-definitions (refused e p n) = []
-
-same : (xs ds : List Definition) → accepted xs ≡ accepted ds → xs ≡ ds
-unfolding definitions
-same xs ds e = ap definitions e
-
-fine-nil : (t : List ℕ) {ns : List ℕ} → checked t ≡ accepted ns → checked t ≡ accepted []
-unfolding found
-fine-nil t e = let f = fine-means t e in fine t (f .0) (ap found (f .1)) (ap found (f .2))
-
-taken-by : (c : Outcome (List ℕ)) (m : Res (List Definition)) (t : List ℕ) (ds : List Definition) → checked t ≡ c → parsed t ≡ m → outcomeBy c t ≡ accepted ds → Taken t ds
-unfolding outcomeBy answered accepts
-taken-by (accepted ns) (ok xs s) t ds f p e = record { fine = fine-nil t f; after = s; reads = p ∙ ap (λ (x : List Definition). ok x s) (same xs ds (rw p at e)) }
-taken-by (accepted ns) (no x l) t ds f p e = absurd (false≢true (ap accepts (rw p at e)))
-taken-by (refused x q n) m t ds f p e = absurd (false≢true (ap accepts e))
-
-pub taken-means : (t : List ℕ) (ds : List Definition) → outcome t ≡ accepted ds → Taken t ds
-unfolding outcome
-taken-means t ds e = taken-by (checked t) (parsed t) t ds refl refl e
 
 abbrev Anywhere : LOC → Type 0
 Anywhere l = Unit {0}

@@ -9,13 +9,13 @@ use Prim.Native.Nat.{ℕ, suc, zero, _+_, _≤_, _<_}
 use native.Mathlib.Omega.{arith}
 use Rattle.token.specs.declared.Token.{Token}
 use Rattle.lexer.specs.declared.location.LOC.{LOC}
-use Rattle.parser.specs.Steps.{St, pos, Res, ok, no, P, bind, test, when, fail, loop, many}
+use Rattle.parser.specs.Steps.{St, pos, Raised, Res, ok, no, P, bind, test, when, fail, loop, many}
 use Rattle.fuel.specs.Takes.{tokensLeft, Leaves, leaves, refused, Takes, Keeps}
 
 -- two readings give the same refusal, or the same answer, which leaves x tokens fewer than b
 pub data Alike {A : Type 0} (x b : ℕ) : Res A → Res A → Type 0 where
   alike : {v : A} {s : St} → x + tokensLeft s ≤ b → Alike x b (ok v s) (ok v s)
-  neither : {e : ℕ} {l : LOC} → Alike x b (no e l) (no e l)
+  neither : {e : Raised} {l : LOC} → Alike x b (no e l) (no e l)
 
 pub alike-same : {A : Type 0} {x b : ℕ} {r q : Res A} → Alike x b r q → r ≡ q
 alike-same (alike h) = refl

@@ -2,12 +2,14 @@
 use mathlib.Core.Path.{_≡_, refl}
 use mathlib.Core.Bool.{Bool, true, false}
 use mathlib.Core.List.{List, [], _∷_}
+use mathlib.Core.Option.{none}
 use Prim.Native.Nat.{suc}
 use native.Mathlib.Omega.{arith}
 use lib.ListN.{length}
 use Rattle.lexer.specs.declared.location.LOC.{LOC}
+use Rattle.lexer.specs.Error.{UnexpectedEOF}
 use Rattle.lexer.specs.Tokens.{Lexeme}
-use Rattle.parser.specs.Steps.{pos, ok, no, P, place, bind, test, fail, next, loop}
+use Rattle.parser.specs.Steps.{pos, raise, ok, no, P, place, bind, test, fail, next, loop}
 use Rattle.fuel.specs.Takes.{leaves, Keeps}
 
 -- the end test of a list of all tokens
@@ -20,7 +22,7 @@ unfolding noneLeft
 none-left-keeps (pos l c []) = leaves {s = pos l c []} (omega arith)
 none-left-keeps (pos l c (t ∷ ts)) = leaves {s = pos l c (t ∷ ts)} (omega arith)
 
-pub too-little : (l : LOC) (c ts : List Lexeme) → (q : LOC) × (loop [] _∷_ noneLeft next (length ts) (pos l c ts) ≡ no 3 q)
+pub too-little : (l : LOC) (c ts : List Lexeme) → (q : LOC) × (loop [] _∷_ noneLeft next (length ts) (pos l c ts) ≡ no (raise UnexpectedEOF none) q)
 unfolding loop noneLeft next fail bind test
 too-little l c [] = (l, refl)
 too-little l c (t ∷ ts) = let h = too-little (place t) c ts in (h .0, rw (h .1))

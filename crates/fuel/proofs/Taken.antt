@@ -200,7 +200,7 @@ members-end-keeps k s =
 
 over-keeps : Keeps D.over
 unfolding D.over
-over-keeps (pos l c []) = itself (test-a _ _ _ _ _ (pos l c []) (fail-a 3 (pos l c [])) (alike {s = pos l c []} (omega arith)))
+over-keeps (pos l c []) = itself (test-a _ _ _ _ _ (pos l c []) (fail-a 1 (pos l c [])) (alike {s = pos l c []} (omega arith)))
 over-keeps (pos l c (t ∷ ts)) = leaves {s = pos l c (t ∷ ts)} (omega arith)
 
 pub document-end-keeps : Keeps documentEnd

@@ -6,10 +6,9 @@ use Prim.Native.Nat.{ℕ, suc, _+_, _*_, _%_}
 use lib.ListN.{length, take, replicate}
 use Rattle.lexer.specs.Error.{NodesFull, NotMovable}
 use Rattle.ast.specs.Lists.{maps}
-use Rattle.ast.specs.Records.{commentWidth, nodeWidth, noParent, room, concat, filled, cleared}
+use Rattle.ast.specs.Records.{commentWidth, nodeWidth, noParent, room, chunks, concat, filled, cleared}
 use Rattle.move_tables.specs.Moves.{
   whole,
-  chunks,
   records,
   parents,
   among,

@@ -2,27 +2,20 @@
 --     whole-concat    a whole table is its records
 --     whole-wide      of so many numbers each
 --     concat-records, concat-whole   the records of records put together
-use mathlib.Core.Path.{_≡_, refl, sym, ap}
-use mathlib.Core.Bool.{Bool, true, false, _&&_}
-use mathlib.Core.List.{List, [], _∷_}
+use mathlib.Core.Path.{_≡_, refl, sym, ap, _∙_}
+use mathlib.Core.Bool.{true}
+use mathlib.Core.List.{List, [], _∷_, append-nil}
 use Prim.Native.Nat.{ℕ, zero, suc, _*_, _/_, _≤_}
 use native.Mathlib.Omega.{arith}
 use borrow.Author.Tests.{eqb-true, leb-true, eq-eqb, le-leb}
 use lib.Dec.{eqb}
 use lib.ListN.{length, drop, length-drop, take-append-drop}
-use lib.Seq.{take-at, drop-at, length-take-le}
+use lib.Seq.{length-take-le}
 use Rattle.ast.specs.Lists.{All, anil, acons}
-use Rattle.ast.specs.Records.{commentWidth, nodeWidth, room, concat}
-use Rattle.ast.proofs.Counts.{Wide, concat-width}
-use Rattle.move_tables.specs.Moves.{narrowWidth, mostRecords, chunks, records, whole}
-
-pub and-left : (a b : Bool) → (a && b) ≡ true → a ≡ true
-and-left true b e = refl
-and-left false b e = e
-
-pub and-right : (a b : Bool) → (a && b) ≡ true → b ≡ true
-and-right true b e = e
-and-right false b e = let z : _≡_ {A = ℕ} 0 1 = cc in absurd (omega arith)
+use Rattle.ast.specs.Records.{commentWidth, nodeWidth, room, chunks, concat}
+use Rattle.ast.proofs.Bools.{and-left, and-right}
+use Rattle.ast.proofs.Counts.{Wide, concat-width, chunks-rows}
+use Rattle.move_tables.specs.Moves.{narrowWidth, mostRecords, records, whole}
 
 nothing : (t : List ℕ) → length t ≡ 0 → t ≡ []
 nothing [] e = refl
@@ -67,9 +60,7 @@ module _ (w : ℕ) (t : List ℕ) (h : whole w t ≡ true) where
   whole-count = rw (chunks-count w (length t / w) t) whole-few
 
 chunks-of : {w : ℕ} {rs : List (List ℕ)} → All (Wide w) rs → chunks w (length rs) (concat rs) ≡ rs
-unfolding chunks concat
-chunks-of anil = refl
-chunks-of {w} (acons {x = r} {xs = rs} h hs) = rw (take-at r (concat rs) w h, drop-at r (concat rs) w h, chunks-of hs)
+chunks-of {w} {rs} hs = ap (chunks w (length rs)) (sym (append-nil (concat rs))) ∙ chunks-rows [] hs
 
 -- so many numbers are n records
 abbrev pub Width : ℕ → Type 0

@@ -17,9 +17,9 @@ use lib.ListN.{length, take, drop, getD, replicate, length-append, length-replic
 use lib.Seq.{getD-take, getD-drop, drop-drop, getD-append-add, ext-getD, getD-at, getD-set-same, getD-set-other, length-take-le}
 use Rattle.ast.specs.Lists.{All, anil, acons}
 use Rattle.ast.specs.Column.{Parent, Past}
-use Rattle.ast.specs.Records.{commentWidth, nodeWidth, noParent, room, concat, filled}
+use Rattle.ast.specs.Records.{commentWidth, nodeWidth, noParent, room, chunks, concat, filled}
 use Rattle.ast.proofs.Counts.{Wide, concat-width}
-use Rattle.move_tables.specs.Moves.{narrowWidth, mostRecords, chunks, records, parents, past, badTenth, narrowed, widened}
+use Rattle.move_tables.specs.Moves.{narrowWidth, mostRecords, records, parents, past, badTenth, narrowed, widened}
 use Rattle.move_tables.specs.Walk.{parentIn, parentsFrom, number, lowerBad, writes, walk, Good}
 use Rattle.move_tables.proofs.Lists.{chunks-count}
 use Rattle.move_tables.proofs.Back.{narrowed-count, widened-count}

@@ -2,13 +2,13 @@
 use mathlib.Core.Bool.{Bool, false, cond, _&&_, _||_}
 use mathlib.Core.List.{List, [], _∷_, _++_}
 use mathlib.Core.Option.{Option, some, none}
-use Prim.Native.Nat.{ℕ, zero, suc, _*_}
+use Prim.Native.Nat.{ℕ, suc, _*_}
 use lib.Dec.{eqb, ltb, leb}
-use lib.ListN.{length, take, drop, getD}
+use lib.ListN.{length, take, getD}
 use Rattle.lexer.specs.Error.{NodesFull, NotMovable}
 use Rattle.lexer.specs.Outcome.{Outcome, accepted, refused}
 use Rattle.ast.specs.Column.{Parent, Past}
-use Rattle.ast.specs.Records.{commentWidth, nodeWidth, noParent, room, concat, filled, cleared}
+use Rattle.ast.specs.Records.{commentWidth, nodeWidth, noParent, room, chunks, concat, filled, cleared}
 use Rattle.move_tables.specs.declared.Moved.{Moved}
 use Rattle.move_tables.specs.declared.Moved.the-variants.{Accepted, Refused}
 
@@ -23,11 +23,6 @@ mostRecords = 65536
 
 unfoldable pub whole : ℕ → List ℕ → Bool
 whole width table = eqb (room width table * width) (length table) && leb (room width table) mostRecords
-
--- so many records
-unfoldable pub chunks : ℕ → ℕ → List ℕ → List (List ℕ)
-chunks width zero table = []
-chunks width (suc n) table = take width table ∷ chunks width n (drop width table)
 
 unfoldable pub records : ℕ → List ℕ → List (List ℕ)
 records width table = chunks width (room width table) table

@@ -39,7 +39,7 @@ use Rattle.ast.specs.Tree.{
   functionTree,
 }
 use Rattle.steps.specs.declared.state.State.{State}
-use Rattle.parser.specs.Steps.{kind, place, span, St, pos, test, peek, when, next, want}
+use Rattle.parser.specs.Steps.{kind, place, span, St, pos, MissingTypeDeclaration, InvalidReturnType, test, peek, when, next, want}
 use Rattle.parser.specs.Definitions as D
 use Rattle.parser.specs.Definitions.{
   parseType,
@@ -55,9 +55,10 @@ use Rattle.parser.specs.Definitions.{
 use Rattle.steps.specs.Into.{done, after, _⨟_, sum, opened, owns, nodeIn}
 use Rattle.parse_fields.specs.Into.{tokenIn, nameIn, fieldIn, fieldsIn}
 use Rattle.parse_members.specs.Into.{throwsIn, returnTypeIn, flagIf, skipOneway, functionHeadIn, functionTailIn, functionIn, initializerIn, memberIn}
+use Rattle.parser.proofs.FirstToken.{type-missing}
 use Rattle.parser.proofs.KindLaws.{one-test, one-kind}
 use Rattle.steps.proofs.ForestLaws.{_⊕_, plus-bare, plus-assoc, perhaps-plus, each-plus, throws-plus}
-use Rattle.steps.proofs.Seen.{small-sum, lastOf, waitingOf, Frame, At, less, fewer, regrown, Meant, went, bind-m, here-m, last-m, weak-m, grouped}
+use Rattle.steps.proofs.Seen.{small-sum, lastOf, waitingOf, Frame, At, less, fewer, regrown, Meant, went, bind-m, here-m, last-m, weak-m, needs-m, grouped}
 use Rattle.steps.proofs.StepLaws.{tested, step-m, one-m, here-in, taken-in}
 use Rattle.steps.proofs.SkipLaws.{trivia-m}
 use Rattle.steps.proofs.NodeLaws.{own-at, finish-at, leaf-m}
@@ -176,7 +177,7 @@ module _ (text : List ℕ) (short : length text ≤ 65536) where
       one-m text short T.Void _ _ s h
       (λ e. last-m (leaf-m 18 (step-m text short (T.Void ∷ []) s e h)) λ tok st₁ t₁ u₁ s₁ h₁.
       went (less (regrown (ap (λ (z : Tree). f ⊕ single z) (void-tree tok (h₁ .kinds))) (h₁ .at))))
-      (λ e. type-m text short 32 h)
+      (λ e. needs-m MissingTypeDeclaration InvalidReturnType _ s type-missing (type-m text short 32 h))
 
   oneway-by : {i b p : ℕ} {fr : Frame} {f : Forest} {st : State} {t u : List ℕ} {s : St} → At text i b p fr f st t u s
       → (z : Bool) → eqb (st .kind) 50 ≡ z → peek (T.Oneway ∷ []) s ≡ z

@@ -10,18 +10,19 @@ use lib.ListN.{length}
 use Rattle.token.specs.Code.{code, is, among}
 use Rattle.token.specs.declared.Token.the-variants as T
 use Rattle.lexer.specs.declared.location.LOC.{LOC}
+use Rattle.lexer.specs.Error.{UnexpectedEOF}
 use Rattle.lexer.specs.Tokens.{Lexeme, lexeme}
 use Rattle.ast.specs.Ast.{FieldType, CommonType, ListType, SetType}
 use Rattle.ast.specs.Tree.{Tree, node, Forest, leaf, inner, single, both, typeTree}
 use Rattle.steps.specs.declared.state.State.{State}
-use Rattle.parser.specs.Steps.{kind, place, span, St, P, test, refuse}
+use Rattle.parser.specs.Steps.{kind, place, span, St, MissingTypeDeclaration, P, test, refuse}
 use Rattle.parser.specs.Types as D
 use Rattle.parser.specs.Types.{leafTypes, containerTypes, complexType, mapType, fieldType}
 use Rattle.steps.specs.Into.{M, leafIn, nodeIn}
 use Rattle.parse_values.specs.Into.{leafType, containerType, containedIn, complexIn, typeBy, typeIn}
 use Rattle.parse_values.proofs.KindTests.{leaf-type-none, leaf-type, container-type-none, container-type}
 use Rattle.steps.proofs.ForestLaws.{_⊕_}
-use Rattle.steps.proofs.Seen.{First, lastOf, Frame, At, less, fewer, regrown, Meant, went, bind-m, unless-m, grouped, Means}
+use Rattle.steps.proofs.Seen.{First, lastOf, Frame, At, less, fewer, regrown, Meant, went, bind-m, next-none, unless-m, needs-m, grouped, Means}
 use Rattle.steps.proofs.StepLaws.{take-m, expect-m, refuse-at-m, here-in}
 use Rattle.steps.proofs.NodeLaws.{open-at, finish-at, leaf-at}
 
@@ -80,8 +81,9 @@ module _ (text : List ℕ) (short : length text ≤ 65536) where
       → Meant (λ a. At text i b p fr (f ⊕ single (typeTree a))) (m st (containerType (st .kind)) st₁ t u) (q tok s))
       → At text i b p fr f st t u s → Meant (λ a. At text i b p fr (f ⊕ single (typeTree a))) (typeBy text m b p st t u) (D.typeBy q s)
   unfolding typeBy D.typeBy leafIn
-  type-by-m b p m q {f = f} {st = st} insides h =
-      bind-m (take-m text short _ h) λ tok st₁ t₁ u₁ s₁ h₁.
+  type-by-m b p m q {f = f} {st = st} {s = s} insides h =
+      needs-m UnexpectedEOF MissingTypeDeclaration _ s (next-none _)
+      (bind-m (take-m text short _ h) λ tok st₁ t₁ u₁ s₁ h₁.
       let c = h₁ .first .coded in
       unless-m _ _ s₁ _ (among (kind tok) leafTypes) (ap (λ (n : ℕ). eqb (leafType n) 0) c ∙ leaf-type-none (kind tok))
       (λ y. went (less
@@ -89,7 +91,7 @@ module _ (text : List ℕ) (short : length text ≤ 65536) where
       (leaf-at (leafType (st .kind)) tok (h₁ .at) (h₁ .there)))))
       (λ y. unless-m _ _ s₁ _ (among (kind tok) containerTypes) (ap (λ (n : ℕ). eqb (containerType n) 0) c ∙ container-type-none (kind tok))
       (λ z. insides tok st₁ t₁ u₁ s₁ (h₁ .first) z (h₁ .at) (h₁ .there))
-      (λ z. refuse-at-m 4 st tok s₁ (h₁ .first)))
+      (λ z. refuse-at-m 4 st tok s₁ (h₁ .first))))
 
   pub type-m : (d : ℕ) {i b p : ℕ} {fr : Frame} {f : Forest} {st : State} {t u : List ℕ} {s : St} → At text i b p fr f st t u s
       → Meant (λ a. At text i b p fr (f ⊕ single (typeTree a))) (typeIn text d b p st t u) (fieldType d s)

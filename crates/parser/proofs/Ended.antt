@@ -15,8 +15,8 @@ use Rattle.parser.specs.Definitions as D
 use Rattle.parser.specs.Definitions.{parseDefinition, documentEnd, parseDocument}
 use Rattle.parser.proofs.Same.{moveS, bareS, bareR, ended, endedDocument, sameDocument, document-same}
 use Rattle.ast.specs.Lists.{All, anil, acons}
+use Rattle.parser.specs.Order.{final}
 use Rattle.parser.proofs.Sure.{
-  final,
   GoodL,
   GoodS,
   good,

@@ -1,28 +1,34 @@
 -- Where a field is begun, its first token is not passed over (document 02, Change 4).
+--     type-missing        in a type's place with no token left 5 is raised
 --     type-unsupported    in a type's place a token that starts no type is refused with 4 there
 --     field-unsupported   so is a field's first token that is no id, no requiredness and starts no type
 --     field-from          a field that is read ranges from its first token on
 use mathlib.Core.Path.{_≡_, refl}
 use mathlib.Core.Bool.{false}
 use mathlib.Core.List.{List, [], _∷_}
+use mathlib.Core.Option.{some, none}
 use Rattle.token.specs.Code.{among}
 use Rattle.token.specs.declared.Token.the-variants as T
 use Rattle.lexer.specs.declared.location.LOC.{LOC}
 use Rattle.lexer.specs.Error.{UnsupportedType}
 use Rattle.lexer.specs.Tokens.{Lexeme}
 use Rattle.ast.specs.Ast.{Field, field}
-use Rattle.parser.specs.Steps.{kind, place, span, St, pos, Res, ok, no, P, bind, test, peek, when, refuse, next, start, taken}
+use Rattle.parser.specs.Steps.{kind, place, span, St, pos, MissingTypeDeclaration, raise, Res, ok, no, P, bind, test, peek, when, refuse, next, start, taken}
 use Rattle.parser.specs.Types.{leafTypes, containerTypes, typeBy, fieldType}
 use Rattle.parser.specs.Definitions.{parseType, parseFieldId, parseRequired, parseField}
 
+pub type-missing : (l : LOC) (c : List Lexeme) → parseType (pos l c []) ≡ no (raise MissingTypeDeclaration none) l
+unfolding parseType fieldType typeBy
+type-missing l c = refl
+
 module _ (l : LOC) (c : List Lexeme) (t : Lexeme) (ts : List Lexeme) (leaf : among (kind t) leafTypes ≡ false) (container : among (kind t) containerTypes ≡ false) where
-  pub type-unsupported : parseType (pos l c (t ∷ ts)) ≡ no UnsupportedType (place t)
+  pub type-unsupported : parseType (pos l c (t ∷ ts)) ≡ no (raise UnsupportedType (some t)) (place t)
   unfolding parseType fieldType typeBy next bind test refuse
   type-unsupported = rw (leaf, container)
 
 module _ (l : LOC) (c : List Lexeme) (t : Lexeme) (ts : List Lexeme) (leaf : among (kind t) leafTypes ≡ false) (container : among (kind t) containerTypes ≡ false)
     (id : among (kind t) (T.IntegerLiteral ∷ []) ≡ false) (first : among (kind t) (T.Required ∷ []) ≡ false) (second : among (kind t) (T.Optional ∷ []) ≡ false) where
-  pub field-unsupported : parseField (pos l c (t ∷ ts)) ≡ no UnsupportedType (place t)
+  pub field-unsupported : parseField (pos l c (t ∷ ts)) ≡ no (raise UnsupportedType (some t)) (place t)
   unfolding parseField taken start bind parseFieldId parseRequired when test peek
   field-unsupported = rw (id, first, second, type-unsupported l [] t ts leaf container)
 

@@ -38,6 +38,7 @@ use Rattle.parser.specs.Steps.{
   span,
   St,
   pos,
+  Raised,
   Res,
   ok,
   no,
@@ -47,6 +48,7 @@ use Rattle.parser.specs.Steps.{
   peek,
   when,
   fail,
+  needs,
   refuse,
   next,
   want,
@@ -124,7 +126,7 @@ record Derived {A : Type 0} (Derives : List Lexeme → A → LOC → List Lexeme
 -- a reading refuses, or gives what Q says of the value, the last token's place and the tokens left; the comments that wait stay
 data Sound {A : Type 0} (Q : A → LOC → List Lexeme → Type 0) (c : List Lexeme) : Res A → Type 0 where
   sound : {a : A} {e : LOC} {r : List Lexeme} → Q a e r → Sound Q c (ok a (pos e c r))
-  refused : {n : ℕ} {l : LOC} → Sound Q c (no n l)
+  refused : {n : Raised} {l : LOC} → Sound Q c (no n l)
 
 module _ {A : Type 0} {Q : A → LOC → List Lexeme → Type 0} {c : List Lexeme} where
   bind-sound : {B : Type 0} {U : B → LOC → List Lexeme → Type 0} {m : Res B} (k : B → P A) →
@@ -142,6 +144,10 @@ module _ {A : Type 0} {Q : A → LOC → List Lexeme → Type 0} {c : List Lexem
   unfolding fail
   fail-sound n (pos l d []) = refused
   fail-sound n (pos l d (t ∷ ts)) = refused
+
+  needs-sound : (n : ℕ) (p : P A) (s : St) → Sound Q c (p s) → Sound Q c (needs n p s)
+  needs-sound n p (pos l d []) h = refused
+  needs-sound n p (pos l d (t ∷ ts)) h = h
 
   refuse-sound : (n : ℕ) (t : Lexeme) (s : St) → Sound Q c (refuse n t s)
   unfolding refuse
@@ -261,7 +267,7 @@ module _ (d : ℕ) (p : Lexeme → P FieldType)
 
   type-by-sound : (ts : List Lexeme) → Sound (TypeIn d ts) c (typeBy p (pos l c ts))
   unfolding typeBy
-  type-by-sound ts = bind-sound _ (next-sound l c ts) (started-type ts)
+  type-by-sound ts = needs-sound 5 _ (pos l c ts) (bind-sound _ (next-sound l c ts) (started-type ts))
 
 type-sound : (d : ℕ) (l : LOC) (c ts : List Lexeme) → Sound (TypeIn d ts) c (fieldType d (pos l c ts))
 unfolding fieldType

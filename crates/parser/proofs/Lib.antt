@@ -4,7 +4,12 @@ pub mod Same
 pub mod Wf
 pub mod Sure
 pub mod Ended
+pub mod Order
 pub mod Lexemes
+pub mod Each
+pub mod Taken
+pub mod Walk
+pub mod Refusals
 pub mod Paid
 pub mod Idl
 pub mod KindLaws

@@ -98,6 +98,7 @@ use Rattle.parser.specs.Steps.{
   place,
   St,
   pos,
+  Raised,
   Res,
   ok,
   no,
@@ -106,6 +107,7 @@ use Rattle.parser.specs.Steps.{
   test,
   when,
   fail,
+  needs,
   refuse,
   next,
   want,
@@ -391,7 +393,7 @@ pub record Spent (x y a b : ℕ) (s : St) : Type 0 where
 -- a reading refuses, or its answer's node records x and comments y and what it leaves are within a and b
 pub data Paid {A : Type 0} (x y : A → ℕ) (a b : ℕ) : Res A → Type 0 where
   paid : {v : A} {s : St} → Spent (x v) (y v) a b s → Paid x y a b (ok v s)
-  refused : {e : ℕ} {l : LOC} → Paid x y a b (no e l)
+  refused : {e : Raised} {l : LOC} → Paid x y a b (no e l)
 
 pays : {A : Type 0} {x y : A → ℕ} {a b : ℕ} {v : A} {s : St} → x v + 2 * tokensLeft s ≤ a → y v + commentsLeft s ≤ b → Paid x y a b (ok v s)
 pays {s = s} n c = paid {s = s} (record { nodes = n; comments = c })
@@ -456,6 +458,10 @@ pub fail-p : {A : Type 0} {x y : A → ℕ} {a b : ℕ} (e : ℕ) (s : St) → P
 unfolding fail
 fail-p e (pos l c []) = refused
 fail-p e (pos l c (t ∷ ts)) = refused
+
+pub needs-p : {A : Type 0} {x y : A → ℕ} {a b : ℕ} (e : ℕ) (p : P A) (s : St) → Paid x y a b (p s) → Paid x y a b (needs e p s)
+needs-p e p (pos l c []) h = refused
+needs-p e p (pos l c (t ∷ ts)) h = h
 
 pub refuse-p : {A : Type 0} {x y : A → ℕ} {a b : ℕ} (e : ℕ) (t : Lexeme) (s : St) → Paid x y a b (refuse {A = A} e t s)
 unfolding refuse
@@ -577,8 +583,9 @@ module _ (p : P FieldType) (hp : (s : St) → PaysTree typeTree s (p s)) where
 type-by-p : (p : Lexeme → P FieldType) → ((t : Lexeme) (s : St) → PaysInside typeTree s (p t s)) → (s : St) → PaysTree typeTree s (typeBy p s)
 unfolding typeBy
 type-by-p p hp s =
-    bind-p (next-p s) λ t s h. test-p _ _ _ s (pays (rw (of-common nodes) (omega arith)) (rw (of-common comments) (omega arith)))
-    (test-p _ _ _ s (inside-p h (hp t s)) (refuse-p 4 t s))
+    needs-p 5 _ s
+    (bind-p (next-p s) λ t s h. test-p _ _ _ s (pays (rw (of-common nodes) (omega arith)) (rw (of-common comments) (omega arith)))
+    (test-p _ _ _ s (inside-p h (hp t s)) (refuse-p 4 t s)))
 
 pub type-p : (d : ℕ) (s : St) → PaysTree typeTree s (fieldType d s)
 unfolding fieldType
@@ -741,7 +748,7 @@ throws-p s =
 pub return-type-p : (s : St) → PaysTree typeTree s (parseReturnType s)
 unfolding parseReturnType
 return-type-p s =
-    when-p _ _ _ s (bind-p (next-p s) λ t s h. pays (rw (of-common nodes) (omega arith)) (rw (of-common comments) (omega arith))) (parse-type-p s)
+    when-p _ _ _ s (bind-p (next-p s) λ t s h. pays (rw (of-common nodes) (omega arith)) (rw (of-common comments) (omega arith))) (needs-p 7 _ s (parse-type-p s))
 
 oneway-p : (s : St) → PaysNothing s (parseOneway s)
 unfolding parseOneway
@@ -850,7 +857,7 @@ definition-p s =
 
 over-p : (s : St) → PaysNothing s (D.over s)
 unfolding D.over
-over-p (pos l c []) = test-p _ _ _ (pos l c []) (fail-p 3 (pos l c [])) (pays (omega arith) (omega arith))
+over-p (pos l c []) = test-p _ _ _ (pos l c []) (fail-p 1 (pos l c [])) (pays (omega arith) (omega arith))
 over-p (pos l c (t ∷ ts)) = pays (omega arith) (omega arith)
 
 document-end-p : (s : St) → PaysNothing s (documentEnd s)

@@ -6,6 +6,7 @@
 use mathlib.Core.Path.{_≡_, refl, ap}
 use mathlib.Core.Bool.{Bool, true, false, cond}
 use mathlib.Core.List.{List, [], _∷_, _++_}
+use mathlib.Core.Option.{some, none}
 use Prim.Native.Nat.{ℕ, suc, zero}
 use Rattle.token.specs.declared.Token.{Token}
 use Rattle.token.specs.declared.Token.the-variants as T
@@ -29,7 +30,7 @@ use Rattle.ast.specs.Ast.{
 use Rattle.ast.specs.Move.{moveLoc, moveL, moves, moveType, moveValue, moveElements, moveProperties, moveAnnotation, moveAnnotations, moveField, moveMember, moveFunction, moveDefinition, move}
 use Rattle.ast.proofs.Forget.{gone, nowhere, bareL}
 use Rattle.ast.specs.Lists.{maps, opt}
-use Rattle.parser.specs.Steps.{_>>=_, _>>_, kind, bytes, place, span, St, pos, Res, ok, no, P, bind, test, peek, when, fail, refuse, next, want, start, here, taken, Fate, stop, over, wait, by, pass, skip, skip-separator, skip-comments, skip-comments-discard, skip-trivia, closed, loop, many}
+use Rattle.parser.specs.Steps.{_>>=_, _>>_, kind, bytes, place, span, St, pos, InvalidReturnType, Raised, raise, Res, ok, no, P, bind, test, peek, when, fail, needs, refuse, next, want, start, here, taken, Fate, stop, over, wait, by, pass, skip, skip-separator, skip-comments, skip-comments-discard, skip-trivia, closed, loop, many}
 use Rattle.parser.specs.Types.{complexType, mapType, containerType, typeBy, fieldType}
 use Rattle.parser.specs.Values.{
   valuesEnd,
@@ -80,9 +81,13 @@ use Rattle.parser.specs.Definitions.{
 unfoldable pub moveS : (Span → Span) → St → St
 moveS h (pos l c ts) = pos (moveLoc h l) (moves h c) (moves h ts)
 
+abbrev pub moveE : (Span → Span) → Raised → Raised
+moveE h (raise e none) = raise e none
+moveE h (raise e (some t)) = raise e (some (moveL h t))
+
 unfoldable pub moveR : {A B : Type 0} → (Span → Span) → (A → B) → Res A → Res B
 moveR h f (ok a s) = ok (f a) (moveS h s)
-moveR h f (no e l) = no e (moveLoc h l)
+moveR h f (no e l) = no (moveE h e) (moveLoc h l)
 
 unfoldable pub moveProperty : (Span → Span) → Property → Property
 moveProperty h (property l k v) = property (moveLoc h l) (moveValue h k) (moveValue h v)
@@ -116,7 +121,7 @@ sameDocument = many [] _∷_ endedDocument parseDefinition
 -- `bind` that moves where it refused: both sides of each law come to it
 bindZ : {A B : Type 0} → (Span → Span) → Res A → (A → P B) → Res B
 bindZ h (ok a s) k = k a s
-bindZ h (no e l) k = no e (moveLoc h l)
+bindZ h (no e l) k = no (moveE h e) (moveLoc h l)
 
 -- ---- the laws, for any map of spans
 
@@ -172,6 +177,11 @@ module _ (h : Span → Span) where
     move-refuse : (e : ℕ) (t : Lexeme) (s : St) → moveR h f (refuse e t s) ≡ refuse e (moveL h t) (moveS h s)
     unfolding refuse moveR
     move-refuse e t s = rw place-move
+
+  needs-same : {A B : Type 0} (e : ℕ) (p : P B) (q : P A) (f : A → B) (s : St) → p (moveS h s) ≡ moveR h f (q s) → needs e p (moveS h s) ≡ moveR h f (needs e q s)
+  unfolding moveS moveR moves
+  needs-same e p q f (pos l c []) g = refl
+  needs-same e p q f (pos l c (t ∷ ts)) g = g
 
   pub here-same : (s : St) → here (moveS h s) ≡ moveR h (moveLoc h) (here s)
   unfolding here moveS moveR
@@ -299,7 +309,7 @@ module _ (h : Span → Span) where
   type-by-same : (p : Lexeme → P FieldType) → ((t : Lexeme) (s : St) → p (moveL h t) (moveS h s) ≡ moveR h (moveType h) (p t s)) →
       (s : St) → typeBy p (moveS h s) ≡ moveR h (moveType h) (typeBy p s)
   unfolding typeBy moveR moveType
-  type-by-same p e s = simp (Move, e)
+  type-by-same p e s = needs-same _ _ _ (moveType h) s (simp (Move, e))
 
   pub type-same : (d : ℕ) (s : St) → fieldType d (moveS h s) ≡ moveR h (moveType h) (fieldType d s)
   unfolding fieldType
@@ -417,9 +427,12 @@ module _ (h : Span → Span) where
   unfolding parseThrows moveR opt
   throws-same s = simp (Move, parameters-same)
 
+  returned-same : (s : St) → needs InvalidReturnType parseType (moveS h s) ≡ moveR h (moveType h) (needs InvalidReturnType parseType s)
+  returned-same s = needs-same InvalidReturnType parseType parseType (moveType h) s (parse-type-same s)
+
   return-type-same : (s : St) → parseReturnType (moveS h s) ≡ moveR h (moveType h) (parseReturnType s)
   unfolding parseReturnType moveR moveType
-  return-type-same s = simp (Move, parse-type-same)
+  return-type-same s = simp (Move, returned-same)
 
   oneway-same : (s : St) → parseOneway (moveS h s) ≡ moveR h (λ b. b) (parseOneway s)
   unfolding parseOneway moveR

@@ -33,6 +33,7 @@ use Rattle.parser.specs.Steps.{
   place,
   St,
   pos,
+  Raised,
   Res,
   ok,
   no,
@@ -42,6 +43,7 @@ use Rattle.parser.specs.Steps.{
   peek,
   when,
   fail,
+  needs,
   refuse,
   next,
   want,
@@ -113,12 +115,8 @@ use Rattle.parser.specs.Definitions.{
 }
 use Rattle.ast.specs.Lists.{All, anil, acons}
 use Rattle.ast.proofs.Counts.{append-all}
+use Rattle.parser.specs.Order.{final}
 use Rattle.parser.proofs.Wf.{commentKinds, most, Tok, WfType, wcommon, wlist, wset, wmap, WfValue, wleaf, wseq, wdict, WfElements, wnil, wcons, WfProperties, wpnil, wpcons, WfAnnotation, wannotation, WfAnnotations, wabsent, wannotations, WfId, wnoid, wid, WfDefault, wnone, wsome, WfField, wfield, WfThrows, wquiet, wthrows, WfReturn, wvoid, wtype, WfFunction, wfunction, WfOption, wnothing, wjust, WfMember, wmember, WfDefinition, winclude, wcpp, wnamespace, wconst, wtypedef, wenum, wstructure, wservice}
-
--- the place of the last of the tokens, and l if there are none
-unfoldable pub final : LOC → List Lexeme → LOC
-final l [] = l
-final l (t ∷ ts) = final (place t) ts
 
 -- ---- kinds
 
@@ -168,7 +166,7 @@ module _ (Good : Token → List ℕ → Type 0) (Last : LOC → Type 0) where
   -- a reading refuses, or gives what Q says and leaves a good state
   pub data Sure {A : Type 0} (Q : A → Type 0) : Res A → Type 0 where
     sure : {a : A} {s : St} → Q a → GoodS s → Sure Q (ok a s)
-    refused : {e : ℕ} {l : LOC} → Sure Q (no e l)
+    refused : {e : Raised} {l : LOC} → Sure Q (no e l)
 
   pub sure-ok : {A : Type 0} {Q : A → Type 0} {a : A} {s : St} → Sure Q (ok a s) → Q a
   sure-ok (sure h g) = h
@@ -198,6 +196,10 @@ module _ (Good : Token → List ℕ → Type 0) (Last : LOC → Type 0) where
   unfolding fail
   fail-s e (pos l c []) = refused
   fail-s e (pos l c (t ∷ ts)) = refused
+
+  pub needs-s : {A : Type 0} {Q : A → Type 0} (e : ℕ) (p : P A) (s : St) → Sure Q (p s) → Sure Q (needs e p s)
+  needs-s e p (pos l c []) h = refused
+  needs-s e p (pos l c (t ∷ ts)) h = h
 
   pub refuse-s : {A : Type 0} {Q : A → Type 0} (e : ℕ) (t : Lexeme) (s : St) → Sure Q (refuse e t s)
   unfolding refuse
@@ -323,9 +325,10 @@ module _ (Good : Token → List ℕ → Type 0) (Last : LOC → Type 0) where
       ((t : Lexeme) → Tok Good containerTypes t → (s : St) → GoodS s → Sure (WfType Good d) (p t s)) →
       {s : St} → GoodS s → Sure (WfType Good d) (typeBy p s)
   unfolding typeBy
-  type-by-s d p hp g =
-      bind-s (next-s g) λ t s h g. test-s _ _ _ s (λ e. sure (wcommon (record { kinds = e; good = h })) g)
-      (λ n. test-s _ _ _ s (λ e. hp t (record { kinds = e; good = h }) s g) (λ m. refuse-s 4 t s))
+  type-by-s d p hp {s} g =
+      needs-s 5 _ s
+      (bind-s (next-s g) λ t s h g. test-s _ _ _ s (λ e. sure (wcommon (record { kinds = e; good = h })) g)
+      (λ n. test-s _ _ _ s (λ e. hp t (record { kinds = e; good = h }) s g) (λ m. refuse-s 4 t s)))
 
   pub type-s : (d : ℕ) {s : St} → GoodS s → Sure (WfType Good d) (fieldType d s)
   unfolding fieldType
@@ -464,7 +467,7 @@ module _ (Good : Token → List ℕ → Type 0) (Last : LOC → Type 0) where
   return-type-s : {s : St} → GoodS s → Sure (WfReturn Good) (parseReturnType s)
   unfolding parseReturnType
   return-type-s {s} g =
-      when-s _ _ _ s (λ e. bind-s (next-is (T.Void ∷ []) g e) λ t s h g. sure (wvoid h) g) (weak-s (λ a h. wtype h) (parse-type-s g))
+      when-s _ _ _ s (λ e. bind-s (next-is (T.Void ∷ []) g e) λ t s h g. sure (wvoid h) g) (needs-s 7 _ s (weak-s (λ a h. wtype h) (parse-type-s g)))
 
   oneway-s : {s : St} → GoodS s → Sure Any (parseOneway s)
   unfolding parseOneway
@@ -562,7 +565,7 @@ module _ (Good : Token → List ℕ → Type 0) (Last : LOC → Type 0) where
 
   over-s : {s : St} → GoodS s → Sure Any (D.over s)
   unfolding D.over
-  over-s (good {l = l} {c = d} c anil z) = test-s _ _ _ (pos l d []) (λ e. fail-s 3 (pos l d [])) (λ e. sure tt (good c anil z))
+  over-s (good {l = l} {c = d} c anil z) = test-s _ _ _ (pos l d []) (λ e. fail-s 1 (pos l d [])) (λ e. sure tt (good c anil z))
   over-s (good c (acons h hs) z) = sure tt (good c (acons h hs) z)
 
   pub document-end-s : (s : St) → GoodS s → Sure Any (documentEnd s)

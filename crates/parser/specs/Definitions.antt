@@ -7,7 +7,7 @@ use lib.Dec.{eqb, ltb}
 use Rattle.token.specs.declared.Token.{Token}
 use Rattle.token.specs.declared.Token.the-variants as T
 use Rattle.lexer.specs.declared.location.LOC.{LOC}
-use Rattle.lexer.specs.Error.{UnexpectedToken, UnexpectedEOF, InvalidValueDeclaration, InvalidFieldName, InvalidFieldId, MissingNamespaceIdentifier, MissingNamespaceScope, MissingIncludeIdentifier, MissingConstIdentifier, MissingTypedefIdentifier, MissingEnumIdentifier, MissingStructIdentifier, MissingServiceIdentifier, MissingServiceExtends, InvalidEnumMemberName}
+use Rattle.lexer.specs.Error.{UnrecognizedToken, UnexpectedToken, InvalidValueDeclaration, InvalidFieldName, InvalidFieldId, MissingNamespaceIdentifier, MissingNamespaceScope, MissingIncludeIdentifier, MissingConstIdentifier, MissingTypedefIdentifier, MissingEnumIdentifier, MissingStructIdentifier, MissingServiceIdentifier, MissingServiceExtends, InvalidEnumMemberName}
 use Rattle.lexer.specs.Tokens.{Lexeme}
 use Rattle.ast.specs.Ast.{
   FieldType,
@@ -42,7 +42,7 @@ use Rattle.ast.specs.Ast.{
   structure,
   Service,
 }
-use Rattle.parser.specs.Steps.{_>>=_, _>>_, pos, ok, P, pure, test, bytes, place, span, when, next, want, fail, start, here, taken, refuse, skip-separator, skip-comments, skip-comments-discard, skip-trivia, separators, closed, many}
+use Rattle.parser.specs.Steps.{_>>=_, _>>_, pos, ok, P, pure, test, bytes, place, span, InvalidReturnType, when, needs, next, want, fail, start, here, taken, refuse, skip-separator, skip-comments, skip-comments-discard, skip-trivia, separators, closed, many}
 use Rattle.parser.specs.Types.{fieldType}
 use Rattle.parser.specs.Values.{fieldValue}
 
@@ -170,7 +170,7 @@ parseThrows = when (T.Throws ∷ []) (do next; fs ← parseParameters; pure (som
 
 -- ReturnType ::= 'void' | Type
 unfoldable pub parseReturnType : P FieldType
-parseReturnType = when (T.Void ∷ []) (do t ← next; pure (CommonType t)) parseType
+parseReturnType = when (T.Void ∷ []) (do t ← next; pure (CommonType t)) (needs InvalidReturnType parseType)
 
 unfoldable pub parseOneway : P Bool
 parseOneway = when (T.Oneway ∷ []) (do next; pure true) (pure false)
@@ -310,7 +310,7 @@ parseDefinition =
 
 -- with no token left: the end, unless the last token ends at offset 1
 unfoldable pub over : P Bool
-over (pos l c []) = test (eqb (l .end .index) 1) (fail UnexpectedEOF) (pure true) (pos l c [])
+over (pos l c []) = test (eqb (l .end .index) 1) (fail UnrecognizedToken) (pure true) (pos l c [])
 over (pos l c (t ∷ ts)) = ok false (pos l c (t ∷ ts))
 
 unfoldable pub documentEnd : P Bool

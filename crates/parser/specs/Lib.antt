@@ -1,7 +1,9 @@
 pub mod Steps
+pub mod Order
 pub mod Types
 pub mod Values
 pub mod Definitions
 pub mod Read
+pub mod Refusals
 pub mod Edges
 pub mod Idl

@@ -1,6 +1,7 @@
 -- Reading as a whole: every row of document 01's table up to 25, for any text and any two tables.
 use mathlib.Core.Bool.{cond}
 use mathlib.Core.List.{List, [], _∷_}
+use mathlib.Core.Option.{some, none}
 use Prim.Native.Nat.{ℕ, _-_}
 use lib.Dec.{eqb, ltb}
 use lib.ListN.{length}
@@ -12,7 +13,7 @@ use Rattle.lexer.specs.Tokens.{tokens}
 use Rattle.lexer.specs.Check.{checked}
 use Rattle.ast.specs.Ast.{Definition}
 use Rattle.ast.specs.Records.{commentWidth, nodeWidth, nodeRows, notes, room, filled, cleared}
-use Rattle.parser.specs.Steps.{Res, ok, no, pos}
+use Rattle.parser.specs.Steps.{Raised, raise, Res, ok, no, pos}
 use Rattle.parser.specs.Definitions.{parseDocument}
 use Rattle.parser.specs.declared.Answer.{Answer}
 use Rattle.parser.specs.declared.Answer.the-variants.{Accepted, Refused}
@@ -21,13 +22,15 @@ use Rattle.parser.specs.declared.Answer.the-variants.{Accepted, Refused}
 unfoldable pub parsed : List ℕ → Res (List Definition)
 parsed t = parseDocument (pos (between opening opening) [] (tokens t opening))
 
--- the end rule: with no token left, 3 if the last token ends at the text's length, else 1
-unfoldable pub endRule : ℕ → LOC → List ℕ → ℕ
-endRule e l t = cond (eqb e UnexpectedEOF) (cond (eqb (l .end .index) (length t)) UnexpectedEOF UnrecognizedToken) e
+-- `error` of parser/mod.rs: with a token in hand the kind that was raised;
+-- with none left THE END RULE, whatever was raised: 3 if the last token ends at the text's length, else 1
+unfoldable pub error : Raised → LOC → List ℕ → ℕ
+error (raise e (some t)) l text = e
+error (raise e none) l text = cond (eqb (l .end .index) (length text)) UnexpectedEOF UnrecognizedToken
 
 unfoldable pub answered : Res (List Definition) → List ℕ → Outcome (List Definition)
 answered (ok ds s) t = accepted ds
-answered (no e l) t = refused (endRule e l t) (l .start .index) (l .end .index - l .start .index)
+answered (no r l) t = refused (error r l t) (l .start .index) (l .end .index - l .start .index)
 
 -- 20, 21, 22, then the grammar
 unfoldable pub outcomeBy : Outcome (List ℕ) → List ℕ → Outcome (List Definition)

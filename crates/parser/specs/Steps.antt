@@ -2,6 +2,7 @@
 -- The first of the tokens left is the one in hand where rico has advanced to it, and the one that it peeks at where it has not.
 use mathlib.Core.Bool.{Bool, true, false, cond}
 use mathlib.Core.List.{List, [], _∷_, _++_}
+use mathlib.Core.Option.{Option, some, none}
 use Prim.Native.Nat.{ℕ, suc, zero}
 use Rattle.token.specs.Code.{among}
 use Rattle.token.specs.declared.Token.{Token}
@@ -27,10 +28,21 @@ span a b = record { start = a .start; end = b .end }
 pub data St : Type 0 where
   pos : LOC → List Lexeme → List Lexeme → St
 
--- a value and the state behind it, or document 01's number and the token's place
+-- the two kinds of error that no text is refused with (lexer/specs/Error has the others): they are raised with no token left
+abbrev pub MissingTypeDeclaration : ℕ
+MissingTypeDeclaration = 5
+
+abbrev pub InvalidReturnType : ℕ
+InvalidReturnType = 7
+
+-- what a step hands to `error` of parser/mod.rs: the kind of error, and the token in hand there, if one is left
+pub data Raised : Type 0 where
+  raise : ℕ → Option Lexeme → Raised
+
+-- a value and the state behind it; or what was raised, and the place of the token in hand or, with none left, of the last one
 pub data Res (A : Type 0) : Type 0 where
   ok : A → St → Res A
-  no : ℕ → LOC → Res A
+  no : Raised → LOC → Res A
 
 abbrev pub P : Type 0 → Type 0
 P A = St → Res A
@@ -61,18 +73,23 @@ peek ks (pos l c (t ∷ ts)) = among (kind t) ks
 unfoldable pub when : {A : Type 0} → List Token → P A → P A → P A
 when ks p q s = test (peek ks s) p q s
 
--- refuse at the next token. With no token left: 3 at the last one, which the end rule makes 3 or 1
+-- refuse at the next token, or with none left at the last one
 unfoldable pub fail : {A : Type 0} → ℕ → P A
-fail e (pos l c []) = no UnexpectedEOF l
-fail e (pos l c (t ∷ ts)) = no e (place t)
+fail e (pos l c []) = no (raise e none) l
+fail e (pos l c (t ∷ ts)) = no (raise e (some t)) (place t)
+
+-- `None => Err(self.error(e))`: with no token left e is raised, else the step goes on
+abbrev pub needs : {A : Type 0} → ℕ → P A → P A
+needs e p (pos l c []) = no (raise e none) l
+needs e p (pos l c (t ∷ ts)) = p (pos l c (t ∷ ts))
 
 -- refuse at a token that was taken
 unfoldable pub refuse : {A : Type 0} → ℕ → Lexeme → P A
-refuse e t s = no e (place t)
+refuse e t s = no (raise e (some t)) (place t)
 
 -- advance
 unfoldable pub next : P Lexeme
-next (pos l c []) = no UnexpectedEOF l
+next (pos l c []) = no (raise UnexpectedEOF none) l
 next (pos l c (t ∷ ts)) = ok t (pos (place t) c ts)
 
 -- expect_token, consume, and both with an error kind: a token of one of these kinds, or refuse with e

@@ -9,7 +9,7 @@ use Rattle.lexer.specs.declared.location.LOC.{LOC}
 use Rattle.lexer.specs.Error.{UnexpectedToken, UnsupportedType, TooDeep}
 use Rattle.lexer.specs.Tokens.{Lexeme}
 use Rattle.ast.specs.Ast.{FieldType, CommonType, ListType, SetType, MapType}
-use Rattle.parser.specs.Steps.{_>>=_, _>>_, P, pure, test, kind, place, span, next, want, here, refuse}
+use Rattle.parser.specs.Steps.{_>>=_, _>>_, P, pure, test, kind, place, span, MissingTypeDeclaration, needs, next, want, here, refuse}
 
 -- a type by itself: a keyword, or a name
 abbrev pub leafTypes : List Token
@@ -45,7 +45,7 @@ containerType inner t =
 
 -- parse_field_type_opt: step, then by the token in hand; `inside` reads a container
 unfoldable pub typeBy : (Lexeme → P FieldType) → P FieldType
-typeBy inside = do
+typeBy inside = needs MissingTypeDeclaration do
   t ← next
   test (among (kind t) leafTypes) (pure (CommonType t)) (test (among (kind t) containerTypes) (inside t) (refuse UnsupportedType t))
 

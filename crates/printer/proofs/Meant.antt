@@ -14,20 +14,20 @@ use lib.ListN.{length, take, drop, replicate, length-append, length-drop, length
 use lib.Seq.{take-append-seam}
 use borrow.Author.Tests.{ltb-false, lt-ltb, le-ltb}
 use Rattle.lexer.specs.Outcome.{Outcome, accepted, refused}
-use Rattle.lexer.specs.Location.{between, opening as opened}
 use Rattle.lexer.specs.Tokens.{Lexeme}
-use Rattle.lexer.specs.Check.{checked}
 use Rattle.lexer.specs.Limit.{limit}
 use Rattle.ast.specs.Lists.{All, anil, acons}
 use Rattle.ast.specs.Ast.{Definition}
 use Rattle.ast.specs.Tree.{Tree, node, Forest, bare, grown, each, definitionTree}
 use Rattle.ast.specs.Records.{commentWidth, nodeWidth, noParent, nodeRow, size, rows, rowsOf, commentRow, owned, commentRows, commentRowsOf, forest, nodeRows, notes, room, concat, filled, cleared}
 use Rattle.ast.proofs.Counts.{Wide, node-rows-wide, notes-wide, concat-width, filled-length, cleared-same}
-use Rattle.parser.specs.Steps.{Res, ok, no}
 use Rattle.parser.specs.Read as R
-use Rattle.parser.specs.Read.{parsed, answered, outcomeBy, outcome, left, rowsBy, reading}
+use Rattle.parser.specs.Read.{outcome, left, rowsBy, reading}
 use Rattle.steps.specs.Into.{restAt, wiped}
-use Rattle.parser.proofs.Lexemes.{Stands, tokens-stand, HasRule, tokens-ruled, EachDefinition, document-each}
+use Rattle.parser.proofs.Lexemes.{Stands, tokens-stand, HasRule, tokens-ruled}
+use Rattle.parser.proofs.Each.{EachDefinition}
+use Rattle.parser.proofs.Walk.{document-reads}
+use Rattle.parser.proofs.Taken.{taken-means}
 use Rattle.parser.proofs.Paid.{nodes-most, notes-most}
 use Rattle.writer.specs.Print.{bytesOf, pieces, printed}
 use Rattle.writer.specs.Write.{widest, outcomeAt, fittedOut, answer, written, printOf, Printing, printing}
@@ -161,13 +161,10 @@ good-tokens : (text : List ℕ) {ts : List Lexeme} → All (Stands text) ts → 
 good-tokens text anil anil = anil
 good-tokens text (acons p ps) (acons q qs) = acons (record { stands = p; ruled = q }) (good-tokens text ps qs)
 
-good-definitions : (text : List ℕ) (ds : List Definition) (r : Res (List Definition)) → parsed text ≡ r → answered r text ≡ accepted ds → All (EachDefinition (Good text)) ds
-unfolding parsed answered
-good-definitions text ds (ok es s) e a =
-    let x : es ≡ ds = cc in
-    let e : parsed text ≡ ok ds s = cc in
-    document-each (Good text) (between opened opened) (good-tokens text (tokens-stand text) (tokens-ruled text)) e
-good-definitions text ds (no n l) e a = let z : _≡_ {A = ℕ} 0 1 = cc in absurd (omega arith)
+good-outcome : (text : List ℕ) (ds : List Definition) → outcome text ≡ accepted ds → All (EachDefinition (Good text)) ds
+good-outcome text ds e =
+    let k = taken-means text ds e in
+    document-reads text (k .short) (Good text) (good-tokens text (tokens-stand text) (tokens-ruled text)) (k .reads) .each
 
 -- ---- what was read is written
 
@@ -238,17 +235,6 @@ module _ (text : List ℕ) (indent : ℕ) (t u o : List ℕ) (ds : List Definiti
       (at-last (document-printed job indent ds opening o good at-first))
 
 -- ---- the whole
-
-good-outcome : (text : List ℕ) (ds : List Definition) → outcome text ≡ accepted ds → All (EachDefinition (Good text)) ds
-unfolding outcome outcomeBy
-good-outcome text ds e = go (checked text) e
-  where
-    never : {e p n : ℕ} → refused e p n ≡ accepted ds → All (EachDefinition (Good text)) ds
-    never a = let z : _≡_ {A = ℕ} 0 1 = cc in absurd (omega arith)
-
-    go : (c : Outcome (List ℕ)) → outcomeBy c text ≡ accepted ds → All (EachDefinition (Good text)) ds
-    go (accepted ns) a = good-definitions text ds (parsed text) refl a
-    go (refused e p n) a = never a
 
 module _ (text : List ℕ) (indent : ℕ) (t u o : List ℕ) where
   -- what a printing gives for an outcome of the reading

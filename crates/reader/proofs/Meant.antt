@@ -12,6 +12,7 @@ use lib.Dec.{eqb, ltb}
 use lib.ListN.{length, take, drop}
 use Rattle.utf8.specs.declared.Found.the-variants.{Nowhere}
 use Rattle.lexer.specs.declared.location.LOC.{LOC}
+use Rattle.lexer.specs.Error.{UnexpectedEOF}
 use Rattle.lexer.specs.Outcome.{Outcome}
 use Rattle.lexer.specs.Location.{between, spanOf, opening}
 use Rattle.lexer.specs.Tokens.{Lexeme, tokens}
@@ -21,6 +22,7 @@ use Rattle.utf8.specs.Utf8.{illFormed}
 use Rattle.lexer.proofs.CheckLaws.{unknown, fine}
 use Rattle.lexer.proofs.PlaceLaws.{opening-placed}
 use Rattle.ast.specs.Lists.{anil}
+use Rattle.ast.proofs.Bools.{or-left}
 use Rattle.ast.specs.Ast.{Definition}
 use Rattle.ast.specs.Tree.{Forest, bare, single, each, definitionTree}
 use Rattle.ast.specs.Records.{commentWidth, nodeWidth, noParent, sizes, rowsOf, owned, commentRowsOf, forest, nodeRows, notes, room}
@@ -38,9 +40,9 @@ use Rattle.ast.proofs.Counts.{
   cleared-same,
 }
 use Rattle.steps.specs.declared.state.State.{State}
-use Rattle.parser.specs.Steps.{St, pos, Res, test, fail}
+use Rattle.parser.specs.Steps.{St, pos, Raised, Res, no, test, fail}
 use Rattle.parser.specs.Definitions.{parseDefinition, over, documentEnd, parseDocument}
-use Rattle.parser.specs.Read.{parsed, endRule, answered, outcomeBy, outcome, fitted, answer, left, rowsBy, Reading, reading}
+use Rattle.parser.specs.Read.{parsed, error, answered, outcomeBy, outcome, fitted, answer, left, rowsBy, Reading, reading}
 use Rattle.steps.specs.Packed.{packed, unpacked, packedLoc, unpackedLoc}
 use Rattle.steps.specs.Into.{Out, done, stop, refused, closesAt, lexerAt, restAt, wiped}
 use Rattle.reader.specs.Into.{inRest, restIn, overIn, betweenIn, documentIn, beginning, refusing, ended, refusingAt, fits, judged, unscanned, settled, parsing}
@@ -48,8 +50,10 @@ use Rattle.reader.proofs.Whole.{read-unknown}
 use Rattle.steps.proofs.PackLaws.{unpacked-packed, loc-back, small-span}
 use Rattle.steps.proofs.TableLaws.{lay, lay-append, length-lay, lay-rest, wiped-lay, node-some, comment-some}
 use Rattle.steps.proofs.ForestLaws.{_⊕_, sizes-plus, counts-plus, rows-plus, notes-plus}
+use Rattle.parser.specs.Refusals.{Refusal, none-left, in-hand}
+use Rattle.parser.proofs.Refusals.{refusals}
 use Rattle.parser.proofs.Paid.{tokens-bound}
-use Rattle.steps.proofs.Seen.{Sound, AheadOf, lexer-span, advance-ahead, moved, waitingOf, Frame, At, Meant, went, halted}
+use Rattle.steps.proofs.Seen.{Sound, AheadOf, lexer-span, advance-ahead, moved, waitingOf, Frame, At, number, Meant, went, halted}
 use Rattle.steps.proofs.StepLaws.{none-ahead, some-ahead, sound-ahead}
 use Rattle.steps.proofs.SkipLaws.{separators-m, comments-m}
 use Rattle.reader.proofs.Bytes.{between-rests, rest-falls}
@@ -260,12 +264,19 @@ module _ (text : List ℕ) (short : length text ≤ 65536) where
         (ap (λ (n : ℕ). wiped (n * commentWidth) u′) count-notes ∙ ap (wiped (length (notes ds) * commentWidth)) table-notes
         ∙ wiped-lay commentWidth comment-some u (notes-wide ds) (owned-wide 0 (waitingOf s)) (ltb-false (room commentWidth u) (length (notes ds)) d)))
 
-  judged-means : {o : Out} {r : Res (List Definition)} {i : ℕ} (t u : List ℕ) → Meant (λ ds. At text i 0 noParent (lent t u) (forest ds)) o r
+  -- with a token in hand no step raises 3, so the code's 3 says that none is left
+  ended-error : {r : Raised} {l : LOC} → Refusal text r l → ended (number r) (l .end .index) (length text) ≡ error r l text
+  unfolding ended error
+  ended-error (none-left e) = refl
+  ended-error (in-hand {e = e} m f) = rw (or-left (eqb e UnexpectedEOF) _ f)
+
+  judged-means : {o : Out} {r : Res (List Definition)} {i : ℕ} (t u : List ℕ) → ((e : Raised) (l : LOC) → r ≡ no e l → Refusal text e l)
+      → Meant (λ ds. At text i 0 noParent (lent t u) (forest ds)) o r
       → judged o (length text) t u ≡ given (answer (answered r text) t u) (left (answer (answered r text) t u) (rowsBy nodeRows (answered r text)) t)
       (left (answer (answered r text) t u) (rowsBy notes (answered r text)) u)
-  unfolding judged answered answer rowsBy refusingAt refusing ended endRule left
-  judged-means t u (went {a = ds} h) = fits-by t u ds h (ltb (room nodeWidth t) (length (nodeRows ds))) (ltb (room commentWidth u) (length (notes ds))) refl refl
-  judged-means t u halted = refl
+  unfolding judged answered answer rowsBy refusingAt refusing left
+  judged-means t u f (went {a = ds} h) = fits-by t u ds h (ltb (room nodeWidth t) (length (nodeRows ds))) (ltb (room commentWidth u) (length (notes ds))) refl refl
+  judged-means t u f (halted {r = r} {l = l}) = rw (ended-error (f r (unpackedLoc l) refl))
 
   sound-means : {o : Out} {r : Res (List Definition)} {i : ℕ} (t u : List ℕ) → Meant (λ ds. At text i 0 noParent (lent t u) (forest ds)) o r
       → unrecognized (cuts (drop (unscanned o) text)) (unscanned o) ≡ unrecognized (cuts text) 0
@@ -277,7 +288,7 @@ module _ (text : List ℕ) (short : length text ≤ 65536) where
       → (v : Option ℕ) → unrecognized (cuts text) 0 ≡ v → settled v o (length text) t u ≡ reading text t u
   unfolding settled reading outcome outcomeBy found
   settled-means t u m b (some p) e = read-unknown text t u p (unknown text short p b (ap found e))
-  settled-means t u m b none e = rw (fine text short b (ap found e)) (judged-means t u m)
+  settled-means t u m b none e = rw (fine text short b (ap found e)) (judged-means t u (refusals text short) m)
 
 pub parsing-means : (text t u : List ℕ) → length text ≤ 65536 → found (illFormed text) ≡ Nowhere → parsing text t u ≡ reading text t u
 unfolding parsing parsed

@@ -6,6 +6,7 @@
 --     outcomes-alike   so outcomes that are equal without lines and columns are alike
 use mathlib.Core.Path.{_≡_, refl, ap, sym, _∙_}
 use mathlib.Core.List.{List, [], _∷_}
+use mathlib.Core.Option.{some, none}
 use Prim.Native.Nat.{ℕ}
 use native.Mathlib.Omega.{arith}
 use lib.ListN.{length, getD}
@@ -18,9 +19,9 @@ use Rattle.ast.specs.Lists.{maps}
 use Rattle.ast.specs.Move.{moveLoc, moves, move, unlined, unlinedRow}
 use Rattle.ast.specs.Records.{nodeRows, notes}
 use Rattle.ast.proofs.MovedRows.{rows-unlined, notes-unlined}
-use Rattle.parser.specs.Steps.{St, pos, Res, ok, no}
+use Rattle.parser.specs.Steps.{St, pos, raise, Res, ok, no}
 use Rattle.parser.specs.Definitions.{parseDocument}
-use Rattle.parser.specs.Read.{endRule, answered}
+use Rattle.parser.specs.Read.{error, answered}
 use Rattle.parser.proofs.Same.{moveS, moveR, document-moved}
 use Rattle.writer.specs.Print.{printed}
 use Rattle.writer.proofs.Places.{print-move}
@@ -33,9 +34,10 @@ unfolding unlined
 keeps s = refl
 
 answered-unlined : (m : Res (List Definition)) (t : List ℕ) → unlinedOutcome (answered m t) ≡ answered (moveR unlined (move unlined) m) t
-unfolding unlinedOutcome answered endRule moveR unlined
+unfolding unlinedOutcome answered error moveR unlined
 answered-unlined (ok ds s) t = refl
-answered-unlined (no e l) t = refl
+answered-unlined (no (raise e none) l) t = refl
+answered-unlined (no (raise e (some k)) l) t = refl
 
 -- the tokens of a document, before the first is taken
 abbrev start : List Lexeme → St

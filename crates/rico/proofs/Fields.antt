@@ -6,7 +6,7 @@ use native.Mathlib.Omega.{arith}
 use mathlib.Core.Path.{_≡_, refl, ap}
 use mathlib.Core.Bool.{Bool, true, false}
 use mathlib.Core.List.{List, [], _∷_}
-use mathlib.Core.Option.{Option}
+use mathlib.Core.Option.{Option, some}
 use Prim.Native.Nat.{ℕ, suc, zero}
 use Rattle.token.specs.declared.Token.{Token}
 use Rattle.token.specs.declared.Token.the-variants as T
@@ -14,18 +14,18 @@ use Rattle.lexer.specs.declared.location.LOC.{LOC}
 use Rattle.lexer.specs.Outcome.{Outcome, accepted, refused}
 use Rattle.lexer.specs.Tokens.{Lexeme}
 use Rattle.ast.specs.Ast.{Structure, Struct, Union, Exception, Definition}
-use Rattle.parser.specs.Steps.{place, St, pos, Res, ok, no, P, bind, test, peek, when, fail, next, start, taken, loop}
+use Rattle.parser.specs.Steps.{place, St, pos, raise, Res, ok, no, P, bind, test, peek, when, fail, start, taken, loop}
 use Rattle.parser.specs.Types.{typeBy, fieldType}
-use Rattle.parser.specs.Read.{endRule, answered}
+use Rattle.parser.specs.Read.{error, answered}
 use Rattle.parser.specs.Definitions as D
 use Rattle.parser.specs.Definitions.{parseType, parseRequired, membersEnd, documentEnd}
 use Rattle.fuel.specs.Fueled.{parseField, parseMembers, parseParameters, parseThrows, parseFunction, parseStructure, parseService, parseDefinition, parseDocument}
 use Rattle.rico.specs.Fields.{parseFieldId, stopping}
 use Rattle.rico.specs.Reading.{parsedBy}
 
--- the first two readings came to the refusal of a begun field, with the numbers x and y, at one place; or all three are the same
+-- the first two readings came to the refusal of a begun field, with the numbers x and y, at one token; or all three are the same
 pub data Till (x y : ℕ) {A : Type 0} : Res A → Res A → Res A → Type 0 where
-  stopped : {p : LOC} {r : Res A} → Till x y (no x p) (no y p) r
+  stopped : {t : Lexeme} {p : LOC} {r : Res A} → Till x y (no (raise x (some t)) p) (no (raise y (some t)) p) r
   alike : {r : Res A} → Till x y r r r
 
 module _ (x y : ℕ) where
@@ -112,7 +112,7 @@ module _ (x y : ℕ) where
   -- ---- the rules
 
   rico-rule : Tills (stopping x) (stopping y) parseFieldId
-  unfolding stopping parseFieldId next fail bind
+  unfolding stopping parseFieldId fail
   rico-rule (pos l c []) = when-t _ _ _ _ _ _ (pos l c []) alike alike _
   rico-rule (pos l c (t ∷ ts)) = when-t _ _ _ _ _ _ (pos l c (t ∷ ts)) alike stopped _
 
@@ -127,7 +127,7 @@ module _ (x y : ℕ) where
   -- with no token left there is no field, and the type is missing
   end-field : (n : ℕ) (l : LOC) (c : List Lexeme) →
       let s = pos l c [] in Till x y (parseField (stopping x) n s) (parseField (stopping y) n s) (parseField D.parseFieldId n s)
-  unfolding parseField taken start bind stopping D.parseFieldId when test peek fail parseRequired parseType fieldType typeBy next
+  unfolding parseField taken start bind stopping D.parseFieldId when test peek parseRequired parseType fieldType typeBy
   end-field n l c = alike
 
   port-field : (n : ℕ) → Tills (parseField (stopping x) n) (parseField (stopping y) n) (parseField D.parseFieldId n)
@@ -155,12 +155,12 @@ number (refused e p n) = e
 
 -- where the answer does not depend on the number of the stop, it is the third reading's
 pub same-answer : {m n r : Res (List Definition)} → Till 0 1 m n r → (t : List ℕ) → answered m t ≡ answered n t → answered m t ≡ answered r t
-unfolding answered endRule number
+unfolding answered error number
 same-answer stopped t e = let z : _≡_ {A = ℕ} 0 1 = ap number e in absurd (omega arith)
 same-answer alike t e = refl
 
 -- a reading that is not refused with 0, no refusal's number, does not depend on it
 pub never-answer : {y : ℕ} {m n r : Res (List Definition)} → Till 0 y m n r → (t : List ℕ) → ((p l : ℕ) → answered m t ≡ refused 0 p l → ⊥) → answered m t ≡ answered n t
-unfolding answered endRule
+unfolding answered error
 never-answer (stopped {p = p}) t h = absurd (h _ _ refl)
 never-answer alike t h = refl

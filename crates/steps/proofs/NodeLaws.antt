@@ -21,7 +21,7 @@ use Rattle.ast.specs.Records.{commentWidth, nodeWidth, nodeRow, size, sizes, ro
 use Rattle.ast.proofs.Counts.{node-row-width, forest-wide, comments-wide, owned-wide, owned-count, append-all, noteCounts, note-counts, rows-sizes}
 use Rattle.steps.specs.declared.packed.Range.{Range}
 use Rattle.steps.specs.declared.state.State.{State}
-use Rattle.parser.specs.Steps.{kind, place, span, St, pos, Res, ok, no, P, bind, test, next, when, peek, closed, loop, many}
+use Rattle.parser.specs.Steps.{kind, place, span, St, pos, Raised, Res, ok, no, P, bind, test, next, when, peek, closed, loop, many}
 use Rattle.steps.specs.Packed.{unpacked, unpackedLoc}
 use Rattle.steps.specs.Into.{
   Out,
@@ -46,7 +46,7 @@ use Rattle.steps.specs.Into.{
 use Rattle.parser.proofs.KindLaws.{one-test}
 use Rattle.steps.proofs.TableLaws.{lay, lay-append, put-lay, owners-lay, node-some, comment-some}
 use Rattle.steps.proofs.ForestLaws.{_⊕_, plus-bare, plus-assoc, sizes-plus, counts-plus, rows-plus, notes-plus}
-use Rattle.steps.proofs.Seen.{small-bump, small-sum, lastOf, waitingOf, Frame, At, less, regrown, few-left, Meant, went, halted, within-m, bind-m, last-m}
+use Rattle.steps.proofs.Seen.{small-bump, small-sum, lastOf, waitingOf, Frame, At, less, regrown, few-left, number, Meant, went, halted, within-m, bind-m, last-m}
 use Rattle.steps.proofs.StepLaws.{some-ahead, tested, step-at, Wanted, emptied}
 use Rattle.steps.proofs.Bytes.{Within, within, weak-w, Falls, Rests}
 use Rattle.steps.proofs.LoopForms.{loop-is}
@@ -197,10 +197,10 @@ leaf-m k halted = halted
 pub data Turn (text : List ℕ) (i b p : ℕ) (fr : Frame) (f : Forest) (closes : State → Bool) (shut : M) : Out → Res Bool → Type 0 where
   shuts : {st st′ : State} {t u t′ u′ : List ℕ} {s : St} → closes st ≡ true → shut st t u ≡ done st′ t′ u′ → At text i b p fr f st′ t′ u′ s
       → Turn text i b p fr f closes shut (done st t u) (ok true s)
-  refuses : {st : State} {t u : List ℕ} {e : ℕ} {l : Range} → closes st ≡ true → shut st t u ≡ stop e l
-      → Turn text i b p fr f closes shut (done st t u) (no e (unpackedLoc l))
+  refuses : {st : State} {t u : List ℕ} {r : Raised} {l : Range} → closes st ≡ true → shut st t u ≡ stop (number r) l
+      → Turn text i b p fr f closes shut (done st t u) (no r (unpackedLoc l))
   goes : {st : State} {t u : List ℕ} {s : St} → closes st ≡ false → At text i b p fr f st t u s → Turn text i b p fr f closes shut (done st t u) (ok false s)
-  halts : {e : ℕ} {l : Range} → Turn text i b p fr f closes shut (stop e l) (no e (unpackedLoc l))
+  halts : {r : Raised} {l : Range} → Turn text i b p fr f closes shut (stop (number r) l) (no r (unpackedLoc l))
 
 module _ {text : List ℕ} {i b p : ℕ} {fr : Frame} {f : Forest} {closes : State → Bool} {shut : M} {A : Type 0} {Q : A → State → List ℕ → List ℕ → St → Type 0} where
   pub turn-after : {o : Out} {r : Res A} {k : M} {g : A → P Bool} → Meant Q o r

@@ -4,13 +4,14 @@
 --     Ahead, First        the token ahead of the code is the first of the tokens left
 --     Frame, At           the state and both tables stand where a forest has been read from a frame on
 --     Meant               the code and the meaning both go on, with what Q says, or both refuse, with the same number and place
---     bind-m, here-m, last-m, cond-m, grouped    a step and then the next one; by a test; steps that the code groups otherwise
+--     bind-m, here-m, last-m, cond-m, needs-m, grouped    a step and then the next one; by a test; where a token must be left; steps that the code groups otherwise
 --     advance-ahead       one token further
 --     few-left            the bytes left
 --     small-bump, small-sum    the code's numbers are counted as they are
 use mathlib.Core.Path.{_≡_, refl, sym, ap, _∙_}
 use mathlib.Core.Bool.{Bool, true, false, not, cond}
 use mathlib.Core.List.{List, [], _∷_, _++_}
+use mathlib.Core.Option.{some, none}
 use Prim.Native.Nat.{ℕ, suc, _+_, _*_, _-_, _≤_, _<_}
 use native.Mathlib.Omega.{arith}
 use borrow.Author.Tests.{le-ltb, lt-ltb, le-leb}
@@ -23,6 +24,7 @@ use Rattle.lexer.specs.declared.location.LOC.{LOC}
 use Rattle.lexer.specs.declared.location.ParserToken.{ParserToken}
 use Rattle.lexer.specs.declared.location.Next.{Next}
 use Rattle.lexer.specs.declared.location.Next.the-variants as N
+use Rattle.lexer.specs.Error.{UnexpectedEOF}
 use Rattle.lexer.specs.Location.{Placed, spanOf}
 use Rattle.lexer.specs.Cuts.{cuts, unrecognized}
 use Rattle.lexer.specs.Tokens as L
@@ -34,7 +36,7 @@ use Rattle.ast.specs.Records.{commentWidth, nodeWidth, sizes, rowsOf, owned, co
 use Rattle.ast.proofs.Counts.{Wide, noteCounts}
 use Rattle.steps.specs.declared.packed.Range.{Range}
 use Rattle.steps.specs.declared.state.State.{State}
-use Rattle.parser.specs.Steps.{kind, bytes, place, St, pos, Res, ok, no, P, bind, test}
+use Rattle.parser.specs.Steps.{kind, bytes, place, St, pos, Raised, raise, Res, ok, no, P, bind, test, needs, next}
 use Rattle.parser.specs.Definitions.{isId}
 use Rattle.parser.proofs.KindLaws.{code-some}
 use Rattle.ast.specs.Largest.{bump}
@@ -199,9 +201,14 @@ regrown e h = rw e at h
 
 -- ---- what both give
 
+-- the number that the code's steps carry: with no token left 3
+abbrev pub number : Raised → ℕ
+number (raise e none) = UnexpectedEOF
+number (raise e (some t)) = e
+
 pub data Meant {A : Type 0} (Q : A → State → List ℕ → List ℕ → St → Type 0) : Out → Res A → Type 0 where
   went : {a : A} {st : State} {t u : List ℕ} {s : St} → Q a st t u s → Meant Q (done st t u) (ok a s)
-  halted : {e : ℕ} {l : Range} → Meant Q (stop e l) (no e (unpackedLoc l))
+  halted : {r : Raised} {l : Range} → Meant Q (stop (number r) l) (no r (unpackedLoc l))
 
 module _ {A B : Type 0} {Q : A → State → List ℕ → List ℕ → St → Type 0} {R : B → State → List ℕ → List ℕ → St → Type 0} where
   pub bind-m : {o : Out} {r : Res A} {k : M} {f : A → P B} → Meant Q o r
@@ -234,6 +241,10 @@ pub within-m : {A : Type 0} {Q : A → State → List ℕ → List ℕ → St �
 within-m (went q) (within h) = went (q, h)
 within-m halted h = halted
 
+pub next-none : {A : Type 0} (k : Lexeme → P A) (l : LOC) (c : List Lexeme) → bind (next (pos l c [])) k ≡ no (raise UnexpectedEOF none) l
+unfolding next bind
+next-none k l c = refl
+
 module _ {A : Type 0} {Q : A → State → List ℕ → List ℕ → St → Type 0} where
   pub cond-m : {o v : Out} (p q : P A) (s : St) (c b : Bool) → c ≡ b → (b ≡ true → Meant Q o (p s)) → (b ≡ false → Meant Q v (q s))
       → Meant Q (cond c o v) (test b p q s)
@@ -247,6 +258,15 @@ module _ {A : Type 0} {Q : A → State → List ℕ → List ℕ → St → Type
   unfolding test
   unless-m p q s c true e f g = rw e (f refl)
   unless-m p q s c false e f g = rw e (g refl)
+
+  -- where no token is left both refuse alike, whatever is raised there
+  gone : (k e : ℕ) {o : Out} {l : LOC} → Meant Q o (no (raise k none) l) → Meant Q o (no (raise e none) l)
+  gone k e halted = halted
+
+  pub needs-m : (k e : ℕ) (p : P A) {o : Out} (s : St) → ((l : LOC) (c : List Lexeme) → p (pos l c []) ≡ no (raise k none) l) → Meant Q o (p s)
+      → Meant Q o (needs e p s)
+  needs-m k e p (pos l c []) z h = gone k e (rw (z l c) at h)
+  needs-m k e p (pos l c (t ∷ ts)) z h = h
 
   pub grouped : (o : Out) (k j : M) {r : Res A} → Meant Q (after o (λ st t u. after (k st t u) j)) r → Meant Q (after (after o k) j) r
   unfolding after

@@ -62,9 +62,10 @@ use Rattle.ast.specs.Tree.{
   definitionTree,
 }
 use Rattle.ast.specs.Records.{noParent, nodeRow, size, sizes}
-use Rattle.parser.proofs.Lexemes.{
+use Rattle.parser.proofs.Each.{
   EachOption,
   esome,
+  Kinded,
   EachAnnotations,
   EachField,
   EachMember,
@@ -245,13 +246,13 @@ module _ (j : Job) where
         (λ x q n r R C p o g b u late a. function-printed j ind x q n r R C p o g b u late a) function-kind xs x q n r R C p o gs gx few l (next-after q next)
         (next-not 11 (omega arith) next) (λ ys m. functions-not 12 ys x q m R refl refl (next-not 12 (omega arith) next)) late a
 
-  extends-printed : (y : Option Lexeme) (ts : Forest) (q n : ℕ) (r : List Piece) (R C : Rows) (p : Cursor) (o : List ℕ) → EachOption (Good (j .text)) y →
+  extends-printed : (y : Option Lexeme) (ts : Forest) (q n : ℕ) (r : List Piece) (R C : Rows) (p : Cursor) (o : List ℕ) → EachOption (Kinded (Good (j .text)) (Tok.Identifier ∷ [])) y →
       ((m : ℕ) → Not 16 (unders ts q m R)) → At j (writeExtends y r) n (unders (perhaps nameTree y ts) q n R) (noteds (perhaps nameTree y ts) n C) p o →
       let k = past nameTree y n in Got (At j r k (unders ts q k R) (noteds ts k C)) (extendsOut (j .text) (j .nodes) (j .count) p o)
   unfolding extendsOut writeExtends perhaps past keyword unders under noteds nameTree leaf sayOut ascii bytesOf
   extends-printed none ts q n r R C p o g h a = rw (not-kind j 16 (omega arith) (h n) a) (got a)
   extends-printed (some (lexeme t w l)) ts q n r R C p o (esome g) h a =
-      rw (kind-is j 16 q 0 l _ a) (on (puts3 j _ (λ r. refl) a) λ p o a. name-printed j (lexeme t w l) q n r _ _ p o g a)
+      rw (kind-is j 16 q 0 l _ a) (on (puts3 j _ (λ r. refl) a) λ p o a. name-printed j (lexeme t w l) q n r _ _ p o (g .holds) a)
 
   -- ---- a definition
 
@@ -293,38 +294,38 @@ module _ (j : Job) where
         let e : suc n + size (nameTree m) ≡ n + suc (size (nameTree m) + 0) = omega arith in
         rw (ek, eo)
         (start _ 1 q n l c (single (nameTree m)) _ (own m ∷ line ∷ r) R C p o gc late (λ R C p o a. puts2 j _ (λ r. refl) a) a λ p o a.
-        on (name-printed j m n (suc n) _ _ _ p o gm a) λ p o a. rw (sym e) (puts1 j _ (λ r. refl) a))
+        on (name-printed j m n (suc n) _ _ _ p o (gm .holds) a) λ p o a. rw (sym e) (puts1 j _ (λ r. refl) a))
     definition-by k owner (CppInclude l c m) q n r R C p o ek eo (ecpp gc gm) next late few a =
         let e : suc n + size (nameTree m) ≡ n + suc (size (nameTree m) + 0) = omega arith in
         rw (ek, eo)
         (start _ 2 q n l c (single (nameTree m)) _ (own m ∷ line ∷ r) R C p o gc late (λ R C p o a. puts2 j _ (λ r. refl) a) a λ p o a.
-        on (name-printed j m n (suc n) _ _ _ p o gm a) λ p o a. rw (sym e) (puts1 j _ (λ r. refl) a))
+        on (name-printed j m n (suc n) _ _ _ p o (gm .holds) a) λ p o a. rw (sym e) (puts1 j _ (λ r. refl) a))
     definition-by k owner (Namespace l c s m) q n r R C p o ek eo (enamespace gc gs gm) next late few a =
         let e : suc n + size (nameTree s) + size (nameTree m) ≡ n + suc (size (nameTree s) + (size (nameTree m) + 0)) = omega arith in
         rw (ek, eo)
         (start _ 3 q n l c (both (nameTree s) (nameTree m)) _ (own s ∷ space ∷ own m ∷ line ∷ r) R C p o gc late (λ R C p o a. puts2 j _ (λ r. refl) a) a λ p o a.
-        on (name-printed j s n (suc n) _ _ _ p o gs a) λ p o a. on (puts1 j _ (λ r. refl) a) λ p o a.
-        on (name-printed j m n (suc n + size (nameTree s)) _ _ _ p o gm a) λ p o a. rw (sym e) (puts1 j _ (λ r. refl) a))
+        on (name-printed j s n (suc n) _ _ _ p o (gs .holds) a) λ p o a. on (puts1 j _ (λ r. refl) a) λ p o a.
+        on (name-printed j m n (suc n + size (nameTree s)) _ _ _ p o (gm .holds) a) λ p o a. rw (sym e) (puts1 j _ (λ r. refl) a))
     definition-by k owner (Const l c t m v) q n r R C p o ek eo (econst gc gt gm gv) next late few a =
         let i = suc n + size (typeTree t) + size (nameTree m) in
         let e : i + size (valueTree v) ≡ n + suc (size (typeTree t) + (size (nameTree m) + (size (valueTree v) + 0))) = omega arith in
         rw (ek, eo)
         (start _ 4 q n l c (grown (typeTree t) (both (nameTree m) (valueTree v))) _
         (writeType t (space ∷ own m ∷ space ∷ mark Tok.Equals 61 ∷ space ∷ writeValue v (line ∷ r))) R C p o gc late (λ R C p o a. puts2 j _ (λ r. refl) a) a λ p o a.
-        on (typed-name-printed j t m (single (valueTree v)) n (suc n) _ R C p o gt gm a) λ p o a. on (puts3 j _ (λ r. refl) a) λ p o a.
+        on (typed-name-printed j t m (single (valueTree v)) n (suc n) _ R C p o gt (gm .holds) a) λ p o a. on (puts3 j _ (λ r. refl) a) λ p o a.
         on (value-printed j 32 v n i _ R C p o gv (next-after i next) a) λ p o a. rw (sym e) (puts1 j _ (λ r. refl) a))
     definition-by k owner (Typedef l c t m) q n r R C p o ek eo (etypedef gc gt gm) next late few a =
         let e : suc n + size (typeTree t) + size (nameTree m) ≡ n + suc (size (typeTree t) + (size (nameTree m) + 0)) = omega arith in
         rw (ek, eo)
         (start _ 5 q n l c (both (typeTree t) (nameTree m)) _ (writeType t (space ∷ own m ∷ line ∷ r)) R C p o gc late (λ R C p o a. puts2 j _ (λ r. refl) a) a λ p o a.
-        on (typed-name-printed j t m bare n (suc n) _ R C p o gt gm a) λ p o a. rw (sym e) (puts1 j _ (λ r. refl) a))
+        on (typed-name-printed j t m bare n (suc n) _ R C p o gt (gm .holds) a) λ p o a. rw (sym e) (puts1 j _ (λ r. refl) a))
     definition-by k owner (Enum l c m xs x) q n r R C p o ek eo (eenum gc gm gs gx) next late few a =
         let us = each memberTree xs (annotationsTree x bare) in
         let i = suc n + size (nameTree m) in
         let e : i + sizes us ≡ n + suc (size (nameTree m) + sizes us) = omega arith in
         rw (ek, eo)
         (start _ 6 q n l c (grown (nameTree m) us) _ (own m ∷ writeBody (writeMember (replicate ind 32)) xs x r) R C p o gc late (λ R C p o a. puts2 j _ (λ r. refl) a) a λ p o a.
-        on-on _ _ (name-printed j m n (suc n) _ _ _ p o gm a) λ p o a.
+        on-on _ _ (name-printed j m n (suc n) _ _ _ p o (gm .holds) a) λ p o a.
         rw (sym e) (enum-members-printed ind x n i r R C p o gx few (omega arith) next xs gs (late-later (i + sizes us) (n + suc (size (nameTree m) + sizes us)) (omega arith) late) a))
     definition-by k owner (structure Struct l c m xs x) q n r R C p o ek eo (estructure gc gm gs gx) next late few a =
         let us = each (fieldTree 0) xs (annotationsTree x bare) in
@@ -332,7 +333,7 @@ module _ (j : Job) where
         let e : i + sizes us ≡ n + suc (size (nameTree m) + sizes us) = omega arith in
         rw (ek, eo)
         (start _ 7 q n l c (grown (nameTree m) us) _ (own m ∷ writeBody (writeField (replicate ind 32)) xs x r) R C p o gc late (λ R C p o a. puts2 j _ (λ r. refl) a) a λ p o a.
-        on-on _ _ (name-printed j m n (suc n) _ _ _ p o gm a) λ p o a.
+        on-on _ _ (name-printed j m n (suc n) _ _ _ p o (gm .holds) a) λ p o a.
         rw (sym e) (fields-printed ind x n i r R C p o gx few (omega arith) next xs gs (late-later (i + sizes us) (n + suc (size (nameTree m) + sizes us)) (omega arith) late) a))
     definition-by k owner (structure Union l c m xs x) q n r R C p o ek eo (estructure gc gm gs gx) next late few a =
         let us = each (fieldTree 0) xs (annotationsTree x bare) in
@@ -340,7 +341,7 @@ module _ (j : Job) where
         let e : i + sizes us ≡ n + suc (size (nameTree m) + sizes us) = omega arith in
         rw (ek, eo)
         (start _ 8 q n l c (grown (nameTree m) us) _ (own m ∷ writeBody (writeField (replicate ind 32)) xs x r) R C p o gc late (λ R C p o a. puts2 j _ (λ r. refl) a) a λ p o a.
-        on-on _ _ (name-printed j m n (suc n) _ _ _ p o gm a) λ p o a.
+        on-on _ _ (name-printed j m n (suc n) _ _ _ p o (gm .holds) a) λ p o a.
         rw (sym e) (fields-printed ind x n i r R C p o gx few (omega arith) next xs gs (late-later (i + sizes us) (n + suc (size (nameTree m) + sizes us)) (omega arith) late) a))
     definition-by k owner (structure Exception l c m xs x) q n r R C p o ek eo (estructure gc gm gs gx) next late few a =
         let us = each (fieldTree 0) xs (annotationsTree x bare) in
@@ -348,7 +349,7 @@ module _ (j : Job) where
         let e : i + sizes us ≡ n + suc (size (nameTree m) + sizes us) = omega arith in
         rw (ek, eo)
         (start _ 9 q n l c (grown (nameTree m) us) _ (own m ∷ writeBody (writeField (replicate ind 32)) xs x r) R C p o gc late (λ R C p o a. puts2 j _ (λ r. refl) a) a λ p o a.
-        on-on _ _ (name-printed j m n (suc n) _ _ _ p o gm a) λ p o a.
+        on-on _ _ (name-printed j m n (suc n) _ _ _ p o (gm .holds) a) λ p o a.
         rw (sym e) (fields-printed ind x n i r R C p o gx few (omega arith) next xs gs (late-later (i + sizes us) (n + suc (size (nameTree m) + sizes us)) (omega arith) late) a))
     definition-by k owner (Service l c m y xs x) q n r R C p o ek eo (eservice gc gm gy gs gx) next late few a =
         let us = each functionTree xs (annotationsTree x bare) in
@@ -360,7 +361,7 @@ module _ (j : Job) where
         rw (ek, eo)
         (start _ 10 q n l c (grown (nameTree m) (perhaps nameTree y us)) _ (own m ∷ writeExtends y (writeBody (writeFunction (replicate ind 32)) xs x r)) R C p o gc late
         (λ R C p o a. puts2 j _ (λ r. refl) a) a λ p o a.
-        on-on _ _ (name-printed j m n (suc n) _ _ _ p o gm a) λ p o a.
+        on-on _ _ (name-printed j m n (suc n) _ _ _ p o (gm .holds) a) λ p o a.
         on-on _ _ (extends-printed y us n i _ R C p o gy (λ h. functions-not 16 xs x n h R refl refl (next-not 16 (omega arith) next)) a) λ p o a.
         rw (sym e) (functions-printed ind x n i₁ r R C p o gx few (omega (arith, later)) next xs gs (late-later (i₁ + sizes us) all (omega (arith, e)) late) a))
 

@@ -52,7 +52,7 @@ use Rattle.ast.specs.Tree.{
 }
 use Rattle.ast.specs.Column as Col
 use Rattle.ast.specs.Records.{nodeWidth, size, sizes}
-use Rattle.parser.proofs.Lexemes.{EachOption, esome, EachField, EachMember, emember, EachFunction, efunction}
+use Rattle.parser.proofs.Each.{EachOption, esome, EachField, EachMember, emember, EachFunction, efunction}
 use Rattle.writer.specs.Print.{
   Piece,
   bytesOf,
@@ -257,7 +257,7 @@ module _ (j : Job) where
       on (spaces-printed j ind n _ _ _ p o a) λ p o a.
       on (passes j 11 q (onewayFlag w + throwsFlag th) l _ a) λ p o a.
       on (oneway-printed w th (suc n) _ _ _ p o a) λ p o a.
-      on (typed-name-printed j t m vs n (suc n) _ R C p o gt gm a) λ p o a.
+      on (typed-name-printed j t m vs n (suc n) _ R C p o gt (gm .holds) a) λ p o a.
       on (puts1 j _ (λ r. refl) a) λ p o a.
       on (params-printed false 0 param-of ps us n k _ R C p o gp (omega arith) b (λ i. stops-throws th x n i R stop) (late-later (k + sizes vs) all (omega arith) late) a) λ p o a.
       on (puts1 j _ (λ r. refl) a) λ p o a.
@@ -298,7 +298,7 @@ module _ (j : Job) where
       (on (comments-printed j ind n n c _ _ _ p o few gc (late-forest ts (suc n) C (late-later (suc n + (size (nameTree m) + sizes us)) all (omega arith) late)) a) λ p o a.
       on (spaces-printed j ind n _ _ _ p o a) λ p o a.
       on (passes j 13 q 0 l _ a) λ p o a.
-      on (name-printed j m n (suc n) _ _ _ p o gm a) λ p o a.
+      on (name-printed j m n (suc n) _ _ _ p o (gm .holds) a) λ p o a.
       on (initializer-printed j v x n k _ R C p o gv few (omega arith) b a) λ p o a.
       on (annotations-printed j x n (past literalTree v k) _ R C p o gx few (omega (arith, later)) b a) λ p o a.
       rw (sym e) (puts2 j _ (λ r. refl) a))

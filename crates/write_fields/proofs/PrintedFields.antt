@@ -65,7 +65,7 @@ use Rattle.ast.specs.Tree.{
 }
 use Rattle.ast.specs.Column as Col
 use Rattle.ast.specs.Records.{nodeWidth, noParent, nodeRow, size, sizes}
-use Rattle.parser.proofs.Lexemes.{EachOption, esome, EachType, EachValue, EachField, efield}
+use Rattle.parser.proofs.Each.{EachOption, esome, EachType, EachValue, EachField, efield}
 use Rattle.writer.specs.Print.{
   Piece,
   mark,
@@ -362,7 +362,7 @@ module _ (j : Job) where
       (on (comments-printed j ind n n c _ _ _ p o few gc (late-forest ts (suc n) C (late-later (suc n + sizes ts) (n + suc (sizes ts)) (omega arith) late)) a) λ p o a.
       on (spaces-printed j ind n _ _ _ p o a) λ p o a.
       on (passes j 12 q (requiredFlag y + 0) l _ a) λ p o a.
-      on (head-printed (requiredFlag y + 0) (writeRequired y) (λ n r R C p o a. required-printed y n r R C p o a) i t m v x n (suc n) _ R C p o gi gt gm gv few (omega arith) b a) λ p o a.
+      on (head-printed (requiredFlag y + 0) (writeRequired y) (λ n r R C p o a. required-printed y n r R C p o a) i t m v x n (suc n) _ R C p o gi gt (gm .holds) gv few (omega arith) b a) λ p o a.
       on (annotations-printed j x n (headEnd i t m v (suc n)) _ R C p o gx few (before i t m v n) b a) λ p o a.
       rw (sym e) (puts2 j _ (λ r. refl) a))
 
@@ -392,7 +392,7 @@ module _ (j : Job) where
       rw eo
       (on (comments-passed j n n c _ _ _ p o few (late-forest ts (suc n) C (late-later (suc n + sizes ts) (n + suc (sizes ts)) (omega arith) late)) a) λ p o a.
       on (passes j 12 q (requiredFlag y + g) l _ a) λ p o a.
-      on (head-printed 0 (λ r. r) (λ n r R C p o a. not-required n r R C p o a) i t m v x n (suc n) r R C p o gi gt gm gv few (omega arith) b a) λ p o a.
+      on (head-printed 0 (λ r. r) (λ n r R C p o a. not-required n r R C p o a) i t m v x n (suc n) r R C p o gi gt (gm .holds) gv few (omega arith) b a) λ p o a.
       rw (sym e)
       (below-from j n (j .count) (omega (arith, a .nodes-ahead .counts, unders-long (annotationsTree x bare) n end R))
       (pass-forest (annotationsTree x bare) n n end R (omega arith) few (omega (arith, before i t m v n)) (omega (arith, e, all))) b (rw (annotations-unnoted x end C) at a)))

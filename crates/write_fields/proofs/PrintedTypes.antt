@@ -20,7 +20,7 @@ use Rattle.ast.specs.Tree.{leaf, inner, single, both, typeTree}
 use Rattle.ast.specs.Records.{size, sizes}
 use Rattle.parser.specs.Steps.{kind, bytes}
 use Rattle.parser.proofs.KindLaws.{one-kind}
-use Rattle.parser.proofs.Lexemes.{Keyword, EachType, ecommon, elist, eset, emap}
+use Rattle.parser.proofs.Each.{Kinded, EachType, ecommon, elist, eset, emap}
 use Rattle.writer.specs.Print.{Piece, bytesOf, own, mark, comma, space, writeType}
 use Rattle.cursor.specs.declared.Cursor.{Cursor}
 use Rattle.cursor.specs.Onto.{Reached, sayOut, tokenOut}
@@ -31,20 +31,20 @@ use Rattle.write_fields.proofs.Ahead.{Rows, under, unders, ownedBefore,
 -- ---- the words of containers
 
 module _ (text : List ℕ) where
-  word-is : (j : Token) (v : List ℕ) → T (only (code j) v words) → T (none-has (code j) rest) → {t : Lexeme} → Keyword (Good text) j t → bytes t ≡ v
+  word-is : (j : Token) (v : List ℕ) → T (only (code j) v words) → T (none-has (code j) rest) → {t : Lexeme} → Kinded (Good text) (j ∷ []) t → bytes t ≡ v
   word-is j v o n {t} g =
       let e : code (kind t) ≡ code j = ap code (one-kind (kind t) j (g .kinds)) in
       keyword-bytes v (bytes t) (kind t) (rw e o) (rw e n) (g .holds .ruled .rule)
 
-  list-is : {t : Lexeme} → Keyword (Good text) Tok.List t → bytes t ≡ ascii "list"
+  list-is : {t : Lexeme} → Kinded (Good text) (Tok.List ∷ []) t → bytes t ≡ ascii "list"
   unfolding only none-has words rest marks shapes wordRule token ascii code same
   list-is g = word-is Tok.List (ascii "list") tt tt g
 
-  set-is : {t : Lexeme} → Keyword (Good text) Tok.Set t → bytes t ≡ ascii "set"
+  set-is : {t : Lexeme} → Kinded (Good text) (Tok.Set ∷ []) t → bytes t ≡ ascii "set"
   unfolding only none-has words rest marks shapes wordRule token ascii code same
   set-is g = word-is Tok.Set (ascii "set") tt tt g
 
-  map-is : {t : Lexeme} → Keyword (Good text) Tok.Map t → bytes t ≡ ascii "map"
+  map-is : {t : Lexeme} → Kinded (Good text) (Tok.Map ∷ []) t → bytes t ≡ ascii "map"
   unfolding only none-has words rest marks shapes wordRule token ascii code same
   map-is g = word-is Tok.Map (ascii "map") tt tt g
 

@@ -54,7 +54,7 @@ use Rattle.ast.specs.Tree.{
 }
 use Rattle.ast.specs.Records.{nodeWidth, size, sizes}
 use Rattle.parser.specs.Steps.{place}
-use Rattle.parser.proofs.Lexemes.{
+use Rattle.parser.proofs.Each.{
   EachValue,
   eleaf,
   eseq,
@@ -240,7 +240,7 @@ module _ (j : Job) where
   annotation-printed n (annotation l (lexeme t w k) v) r (eannotation g h) m R C p o b e a =
       let i : suc (suc m) + size (literalTree v) ≡ m + suc (1 + (size (literalTree v) + 0)) = omega arith in
       let f : suc m + 1 ≡ suc (suc m) = omega arith in
-      on (passes j 15 n 0 l _ a) λ p o a. on (prints-token j (lexeme t w k) 16 m 0 _ (g .stands) a) λ p o a.
+      on (passes j 15 n 0 l _ a) λ p o a. on (prints-token j (lexeme t w k) 16 m 0 _ (g .holds .stands) a) λ p o a.
       on (puts3 j _ (λ r. refl) a) λ p o a. rw (sym i) (literal-printed j v m (suc (suc m)) r R C p o h (rw f at a))
 
   annotations-shown : (n : ℕ) (r : List Piece) (b : Bool) (xs : List Annotation) → All (EachAnnotation (Good (j .text))) xs →

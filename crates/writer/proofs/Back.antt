@@ -1,7 +1,7 @@
 -- The printed tokens read back as what was printed, places forgotten, and without what write_param drops.
 use mathlib.Core.Path.{_≡_, refl, ap, sym, _∙_}
 use mathlib.Core.Bool.{Bool, true, false, cond, or-false}
-use mathlib.Core.Option.{Option}
+use mathlib.Core.Option.{Option, none}
 use mathlib.Core.List.{List, [], _∷_, _++_, append-assoc, append-nil}
 use Prim.Native.Nat.{ℕ, suc, zero, _<_}
 use native.Mathlib.Omega.{arith}
@@ -19,13 +19,14 @@ use Rattle.ast.specs.Ast.{FieldType, FieldInitialValue, Elements, nil, cons, Pr
 use Rattle.ast.specs.Drop.{dropField, dropFunction, dropParams}
 use Rattle.ast.specs.Move.{moveL, moves, moveType, moveValue, moveElements, moveProperties, moveAnnotation, moveAnnotations, moveField, moveMember, moveFunction, moveDefinition, move}
 use Rattle.ast.proofs.Forget.{nowhere, bareL, bares, forgetType, forgetValue, forgetElements, forgetProperties, forgetAnnotation, forgetAnnotations, forgetField, forgetMember, forgetFunction, forgetDefinition, forget}
-use Rattle.parser.specs.Steps.{kind, place, St, pos, Res, ok, P, bind, test, peek, when, next, want, start, here, taken, Fate, stop, over, wait, fate, by, pass, skip, skip-separator, skip-comments, skip-comments-discard, skip-trivia, closed, loop, many, separators}
+use Rattle.parser.specs.Steps.{kind, place, St, pos, MissingTypeDeclaration, InvalidReturnType, raise, Res, ok, no, P, bind, test, peek, when, needs, next, want, start, here, taken, Fate, stop, over, wait, fate, by, pass, skip, skip-separator, skip-comments, skip-comments-discard, skip-trivia, closed, loop, many, separators}
 use Rattle.parser.specs.Types.{leafTypes, containerTypes, complexType, mapType, containerType, typeBy, fieldType}
 use Rattle.parser.specs.Values.{leafValues, openers, valuesEnd, property, put, mapProperty, listValue, mapValue, containerValue, valueBy, fieldValue}
 use Rattle.parser.specs.Definitions as D
 use Rattle.parser.specs.Definitions.{parseType, parseValue, oneSeparator, parseAnnotation, annotationsEnd, parseAnnotations, parseFieldId, parseRequired, parseDefault, parseField, membersEnd, parseMembers, parseParameters, parseThrows, parseReturnType, parseOneway, parseFunction, parseInitializer, parseEnumMember, parseInclude, parseNamespace, parseConst, parseTypedef, parseEnum, parseStructure, parseExtends, parseService, parseDefinition, documentEnd, parseDocument}
 use Rattle.parser.proofs.Same.{kind-bare, bytes-bare, place-bare, span-nowhere}
 use Rattle.parser.proofs.KindLaws.{either}
+use Rattle.parser.proofs.FirstToken.{type-missing}
 use Rattle.parser.proofs.Loops.{loop-end, loop-more}
 use Rattle.parser.proofs.Wf.{commentKinds, most, Tok, WfType, wcommon, wlist, wset, wmap, WfValue, wleaf, wseq, wdict, WfElements, wnil, wcons, WfProperties, wpnil, wpcons, WfAnnotation, wannotation, WfAnnotations, wabsent, wannotations, WfId, wnoid, wid, WfDefault, wnone, wsome, WfField, wfield, WfThrows, wquiet, wthrows, WfReturn, wvoid, wtype, WfFunction, wfunction, WfOption, wnothing, wjust, WfMember, wmember, WfDefinition, winclude, wcpp, wnamespace, wconst, wtypedef, wenum, wstructure, wservice}
 use Rattle.writer.specs.Print.{Piece, gap, mark, word, note, own, keyword, space, line, comma, writeType, writeValue, writeElements, moreElements, writeProperties, moreProperties, writeEach, commas, nothing, writeAnnotation, writeAnnotations, writeComment, writeComments, writeId, writeRequired, writeDefault, writeField, writeParam, writeInitializer, writeMember, writeThrows, writeOneway, writeFunction, writeBody, structureKeyword, writeExtends, writeDefinition, pieces}
@@ -107,6 +108,9 @@ module _ (c : List Lexeme) (r : List Piece) where
   next-own : (t : Lexeme) → next (on c (own t ∷ r)) ≡ ok (bareL t) (on c r)
   unfolding next
   next-own t = simp (own-toks, place-bare)
+
+  needs-own : {A : Type 0} (e : ℕ) (p : P A) (t : Lexeme) → needs e p (on c (own t ∷ r)) ≡ p (on c (own t ∷ r))
+  needs-own e p t = simp own-toks
 
   next-mark : (k : Token) (b : ℕ) → next (on c (mark k b ∷ r)) ≡ ok (lexeme k (b ∷ []) nowhere) (on c r)
   unfolding next toks place
@@ -277,14 +281,15 @@ module _ (Good : Token → List ℕ → Type 0) where
 
   pub type-rt : {d : ℕ} {t : FieldType} → WfType Good d t → (c : List Lexeme) (r : List Piece) → fieldType d (on c (writeType t r)) ≡ ok (forgetType t) (on c r)
   unfolding fieldType typeBy containerType complexType mapType writeType moveType bind test here
-  type-rt {d = zero} (wcommon h) c r = simp (next-own, kind-bare, h .kinds)
-  type-rt {d = suc d} (wcommon h) c r = simp (next-own, kind-bare, h .kinds)
+  type-rt {d = zero} (wcommon h) c r = simp (needs-own, next-own, kind-bare, h .kinds)
+  type-rt {d = suc d} (wcommon h) c r = simp (needs-own, next-own, kind-bare, h .kinds)
   type-rt (wlist {k = k} {t = t} h g) c r = let z = list-kinds (kind k) (h .kinds) in
-      simp (next-own, kind-bare, z .noleaf, z .container, z .itself, want-mark, place-bare, span-nowhere, type-rt g c (mark T.RightAngle 62 ∷ r))
+      simp (needs-own, next-own, kind-bare, z .noleaf, z .container, z .itself, want-mark, place-bare, span-nowhere, type-rt g c (mark T.RightAngle 62 ∷ r))
   type-rt (wset {k = k} h g) c r = let z = set-kinds (kind k) (h .kinds) in
-      simp (next-own, kind-bare, z .noleaf, z .container, set-list (kind k) (h .kinds), z .itself, want-mark, place-bare, span-nowhere, type-rt g c (mark T.RightAngle 62 ∷ r))
+      simp (needs-own, next-own, kind-bare, z .noleaf, z .container, set-list (kind k) (h .kinds), z .itself, want-mark, place-bare, span-nowhere, type-rt g c (mark T.RightAngle 62 ∷ r))
   type-rt (wmap {k = k} {b = b} h g i) c r = let z = map-kinds (kind k) (h .kinds) in
       simp (
+        needs-own,
         next-own,
         kind-bare,
         z .noleaf,
@@ -958,10 +963,16 @@ module _ (Good : Token → List ℕ → Type 0) where
 
   -- ---- functions
 
+  -- what is read was there
+  needs-ok : {A : Type 0} (e k : ℕ) (p : P A) (s u : St) (a : A) → ((l : LOC) (c : List Lexeme) → p (pos l c []) ≡ no (raise k none) l) → p s ≡ ok a u
+      → needs e p s ≡ ok a u
+  needs-ok e k p (pos l c []) u a z h = let y = z l c in let o : _≡_ {A = ℕ} 0 1 = cc in absurd (omega arith)
+  needs-ok e k p (pos l c (t ∷ ts)) u a z h = h
+
   return-rt : {t : FieldType} → WfReturn Good t → (c : List Lexeme) (r : List Piece) → parseReturnType (on c (writeType t r)) ≡ ok (forgetType t) (on c r)
   unfolding parseReturnType when test bind
   return-rt (wvoid h) c r = unfold writeType moveType in simp (peek-own, h .kinds, next-own)
-  return-rt (wtype h) c r = let z = type-free (type-opens Good h r) in simp (z .2 .free c, parse-type-rt Good h c r)
+  return-rt (wtype h) c r = let z = type-free (type-opens Good h r) in simp (z .2 .free c, needs-ok InvalidReturnType MissingTypeDeclaration parseType _ _ _ type-missing (parse-type-rt Good h c r))
 
   return-opens : {t : FieldType} → WfReturn Good t → (r : List Piece) → Opens starts (writeType t r) × Free (T.Oneway ∷ []) (writeType t r)
   return-opens (wvoid {t = t} h) r = let z = void-starts (kind t) (h .kinds) in
