@@ -7,7 +7,9 @@ The answers are rico's own for the texts inside, which come first, and those of 
 Where a text has CR LF, which rico counts for two lines and document 01 with Change 1 for one, lines and columns are those of oracle/longest.py.
 Each text becomes a theorem by computation, in a crate of its own beside a copy of the crates under target/definitions: records, comments and refusals
 against parser/specs/Read, prints at 0, 2 and 8 against writer/specs/Print. If oracle/build was run, rico's own answers to the same texts, with rico's lines, against rico/specs/Reading,
-and where the first field is begun that starts with no integer, if any is, by oracle/reading.py. The crates must be proved before (rt check writer rico). ASCII texts only. It is slow (about a tenth of a second a theorem) and no part of the gate."""
+and where the first field is begun that starts with no integer, if any is, by oracle/reading.py; and what is raised, before the end rule, where the grammar refuses: the kind, and whether a token is in hand,
+noted in rico with the field rule (oracle/raised.patch), against `raised` of parser/specs/Refusals. That too for accepted texts cut behind a token, so that they end early: the shortest for each kind raised and two last tokens.
+Where rico panics there is nothing to compare (an enum member's `=` at the end; the definition raises 6 with no token left). The crates must be proved before (rt check writer rico). ASCII texts only. It is slow (about a tenth of a second a theorem) and no part of the gate."""
 import os
 import re
 import shutil
@@ -22,6 +24,7 @@ from longest import PAIR, cut
 import reading
 
 ORACLE = "target/oracle/bin/oracle"
+FIELDS = "target/oracle/bin/oracle_fields"
 longest = int(sys.argv[1]) if len(sys.argv) > 1 else 100
 every = int(sys.argv[2]) if len(sys.argv) > 2 else 8
 data = open("oracle/answers.list", "rb").read()
@@ -38,6 +41,14 @@ def part(n):
     global at
     at += n
     return data[at - n : at]
+
+
+def asked(oracle, form, texts):
+    """The oracle's answer to each text."""
+    global data, at
+    packed = b"".join(struct.pack("<I", len(t)) + t for t in texts)
+    data, at = subprocess.run([oracle, "batch", form], input=packed, stdout=subprocess.PIPE, check=True).stdout, 0
+    return [part(number()).decode() for _ in texts]
 
 
 def place(text, rows):
@@ -148,11 +159,9 @@ if os.path.exists(ORACLE):
     head, rest = source.split("-- what rico answers\n")
     opened = re.search(r"^pub edges-hold .*\n((?:.|\n)*?)edges-hold =", rest, re.M).group(1)
     head = re.sub(r"Edges\.\{[^}]*\}", "Edges.{Holds, refuses, accepts}", head)
-    packed = b"".join(struct.pack("<I", len(c[0])) + c[0] for c in cases)
-    data, at = subprocess.run([ORACLE, "batch", "nodes"], input=packed, stdout=subprocess.PIPE, check=True).stdout, 0
     theorems, parted = [], 0
-    for i, (text, *_) in enumerate(cases):
-        rows = [list(map(int, row.split())) for row in part(number()).decode().replace("R ", "").replace("PANIC", "").split("\n")[:-1]]
+    for i, (text, answer) in enumerate((c[0], a) for c, a in zip(cases, asked(ORACLE, "nodes", [c[0] for c in cases]))):
+        rows = [list(map(int, row.split())) for row in answer.replace("R ", "").replace("PANIC", "").split("\n")[:-1]]
         first = reading.read(text)[1]
         if not rows[0]:
             continue
@@ -168,5 +177,23 @@ if os.path.exists(ORACLE):
         theorems.append(f"b{i} : Holds (O.outcomeWith (F.stopping 0)) ({edge})\n{opened}b{i} = {proof}\n")
     module("Rico", head, theorems)
     print(f"{len(theorems)} theorems on rico's own rules, {parted} texts outside")
+
+    head, rest = open("crates/parser/proofs/Cases.antt").read().split("pub edges-hold ")
+    opened = re.search(r"^pub examples-raise .*\n((?:.|\n)*?)examples-raise =", rest, re.M).group(1)
+    head = head.replace("use mathlib.Core.Path.{refl}", "use mathlib.Core.Path.{_≡_, refl}\nuse mathlib.Core.List.{[], _∷_}")
+    refused = [c[0] for c in cases if c[1] and c[1][0] < 20]
+    raised = {t: tuple(map(int, a.split())) for t, a in zip(refused, asked(FIELDS, "raised", refused))}
+    ended = sorted({c[0][: t[4]] for c in short if not c[1] for t in cut(c[0])[0]} - set(refused), key=lambda t: (len(t), t))
+    answers = dict(zip(ended, (a.strip() for a in asked(FIELDS, "raised", ended))))
+    places = {}
+    for t, a in answers.items():
+        if a not in ("-", "PANIC"):
+            places.setdefault((a, *(token[0] for token in cut(t)[0][-2:])), t)
+    raised.update((t, tuple(map(int, answers[t].split()))) for t in places.values())
+    module("Raised", head, [f"e{i} : raised (parsed (bytes {quoted(t)})) ≡ {listed(r)}\n{opened}e{i} = refl\n" for i, (t, r) in enumerate(raised.items())])
+    print(f"{len(raised)} theorems on what is raised: {len(refused)} texts of the list, {len(places)} of {len(ended)} cut texts, {list(answers.values()).count('PANIC')} on which rico panics left out")
+    for hand, words in (0, "with no token left"), (1, "with a token in hand"):
+        kinds = [kind for kind, h in raised.values() if h == hand]
+        print(f"{len(kinds)} {words}, of the kinds", *sorted(set(kinds)))
 open("target/definitions/crates/held/proofs/Lib.antt", "w").write("".join(f"pub mod {n}\n" for n in names))
 sys.exit(run())

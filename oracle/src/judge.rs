@@ -12,6 +12,9 @@ pub const LONGEST: usize = 65_536;
 /// Number, place, length.
 pub type Refusal = (u32, usize, usize);
 
+/// The kind that rico's `error` was called with, before the end rule in it, and whether a token was in hand.
+pub type Raised = (u32, bool);
+
 pub enum Answer {
     Accepted(Document, Tables),
     Refused(Refusal),
@@ -36,27 +39,35 @@ pub fn judge(bytes: &[u8]) -> Answer {
 /// The answer, and whether a field was begun with another token than an integer before the reading ended.
 /// Over rico unchanged the second is always false; over rico with the field rule of Change 4 it tells the texts on which the two rules may part.
 pub fn judge_fields(bytes: &[u8]) -> (Answer, bool) {
+    let (answer, otherwise, _) = judge_noted(bytes);
+    (answer, otherwise)
+}
+
+/// As judge_fields; and what was raised where rico's parser refuses. That is noted over rico with raised.patch alone.
+pub fn judge_noted(bytes: &[u8]) -> (Answer, bool, Option<Raised>) {
     let text = match door(bytes) {
         Ok(text) => text,
-        Err(refusal) => return (Answer::Refused(refusal), false),
+        Err(refusal) => return (Answer::Refused(refusal), false, None),
     };
     let cut = cut(text);
     if let Some(at) = cut.unrecognized {
-        return (Answer::Refused((22, at, 0)), false);
+        return (Answer::Refused((22, at, 0)), false, None);
     }
     Parser::probe_fields();
+    Parser::probe_raised();
     let parsed = catch_unwind(AssertUnwindSafe(|| {
         Parser::new(text).parse().map_err(|e| e.probe_refusal())
     }));
     // before the depth is judged: that reads other texts
     let noted = Parser::probe_fields();
+    let raised = Parser::probe_raised();
     let answer = judged(text, &cut, parsed);
     let otherwise = match answer {
         // rico read on behind the 33rd container
         Answer::Refused((23, place, _)) => noted.is_some_and(|at| at < place),
         _ => noted.is_some(),
     };
-    (answer, otherwise)
+    (answer, otherwise, raised)
 }
 
 fn judged(text: &str, cut: &Cut, parsed: std::thread::Result<Result<Document, Refusal>>) -> Answer {

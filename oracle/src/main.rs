@@ -5,16 +5,17 @@
 //! oracle list tokens | answers   many as above; writes a whole list file (README.md has the format)
 //! oracle check                   many as above; the two ways of judging 23 must agree
 //!
-//! FORM: nodes, tokens, print INDENT, raw (as nodes, but without the checks 20, 22 and 23: rico left to itself), or
-//! fields (outside if a field was begun with another token than an integer, else inside; known only over rico with the field rule of Change 4)
+//! FORM: nodes, tokens, print INDENT, raw (as nodes, but without the checks 20, 22 and 23: rico left to itself),
+//! fields (outside if a field was begun with another token than an integer, else inside; known only over rico with the field rule of Change 4), or
+//! raised (the kind that rico's `error` was called with, and 1 with a token in hand, 0 with none; known only over the same rico)
 
-use oracle::judge::{door, judge, judge_fields, Answer, LONGEST};
+use oracle::judge::{door, judge, judge_fields, judge_noted, Answer, LONGEST};
 use oracle::{depth, flatten, tokens};
 use rico::Writer;
 use std::fmt::Write as _;
 use std::io::{self, Read, Write};
 
-const USAGE: &str = "usage: oracle [batch] nodes|tokens|print INDENT|raw|fields, oracle list tokens|answers, oracle check";
+const USAGE: &str = "usage: oracle [batch] nodes|tokens|print INDENT|raw|fields|raised, oracle list tokens|answers, oracle check";
 
 /// Indents that answers.list keeps a print for.
 const INDENTS: [usize; 3] = [0, 2, 8];
@@ -31,6 +32,7 @@ enum Form {
     Print(usize),
     Raw,
     Fields,
+    Raised,
 }
 
 fn run() {
@@ -66,6 +68,7 @@ fn form(args: &[&str]) -> Form {
         ["tokens"] => Form::Tokens,
         ["raw"] => Form::Raw,
         ["fields"] => Form::Fields,
+        ["raised"] => Form::Raised,
         ["print", indent] => Form::Print(indent.parse().expect(USAGE)),
         _ => fail(USAGE),
     }
@@ -99,6 +102,7 @@ fn answer(text: &[u8], form: &Form) -> String {
         Form::Tokens => token_lines(text),
         Form::Raw => raw_lines(text),
         Form::Fields => if judge_fields(text).1 { "outside\n" } else { "inside\n" }.to_string(),
+        Form::Raised => raised_line(text),
         Form::Print(indent) if text.len() <= LONGEST && *indent > 8 => refusal((26, 0, 0)),
         Form::Nodes | Form::Print(_) => match judge(text) {
             Answer::Refused(r) => refusal(r),
@@ -151,6 +155,21 @@ fn raw_lines(bytes: &[u8]) -> String {
         Ok(Ok(document)) => node_lines(&flatten::flatten(&document)),
         Ok(Err(r)) => refusal(r),
         Err(_) => "PANIC\n".to_string(),
+    }
+}
+
+/// What was raised where rico's parser refuses. The refusal must be what `error` makes of it: the kind with a token in hand, 3 or 1 with none.
+fn raised_line(bytes: &[u8]) -> String {
+    match judge_noted(bytes) {
+        (Answer::Panic(_), ..) => "PANIC\n".to_string(),
+        (Answer::NotJudged, ..) => "NOT JUDGED\n".to_string(),
+        (Answer::Refused((number @ 1..=19, ..)), _, raised) => match raised {
+            Some((kind, true)) if kind == number => format!("{kind} 1\n"),
+            Some((kind, false)) if number == 1 || number == 3 => format!("{kind} 0\n"),
+            Some(_) => fail("what was raised last is not what the text is refused with"),
+            None => fail("what is raised is noted over rico with raised.patch alone: ask oracle_fields"),
+        },
+        (Answer::Accepted(..) | Answer::Refused(_), ..) => "-\n".to_string(),
     }
 }
 

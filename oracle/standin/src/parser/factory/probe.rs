@@ -1,7 +1,7 @@
 // PROBE, not rico's and no stand-in: lets the oracle read what rico keeps private.
 // It stands below rico's parser module because only that module's children see its private parts.
 
-use crate::parser::error::ParseError;
+use crate::parser::error::{ParseError, ParseErrorKind};
 use crate::parser::{Parser, ParserToken};
 use std::cell::Cell;
 
@@ -9,6 +9,9 @@ thread_local! {
     /// The offset of the first field that was begun with another token than an integer.
     /// Only rico with the field rule of Change 4 (fields.patch) sets it.
     static OTHERWISE: Cell<Option<usize>> = const { Cell::new(None) };
+    /// The kind (its place in ParseErrorKind, from 1) that `error` was last called with, and whether a token was in hand.
+    /// Only rico with raised.patch sets it.
+    static RAISED: Cell<Option<(u32, bool)>> = const { Cell::new(None) };
 }
 
 impl<'a> Parser<'a> {
@@ -36,6 +39,18 @@ impl<'a> Parser<'a> {
     /// What was noted in this thread since the last call.
     pub fn probe_fields() -> Option<usize> {
         OTHERWISE.take()
+    }
+
+    /// `error` is called with a kind. Where `parse` refuses, the last call made the error that it returns: every ParseError
+    /// comes from `error`, and is handed up as it is but in two places, `with_error_boundary`, which calls `error` anew,
+    /// and `is_bracket_end` and `is_brace_end`, which drop it and go on, so that a refusal later is a later call.
+    pub(crate) fn probe_error(&self, kind: ParseErrorKind) {
+        RAISED.set(Some((kind as u32 + 1, self.cur_token.is_some())));
+    }
+
+    /// What `error` was last called with in this thread since the last call of this.
+    pub fn probe_raised() -> Option<(u32, bool)> {
+        RAISED.take()
     }
 }
 
