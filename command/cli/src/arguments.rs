@@ -6,6 +6,7 @@ pub const USAGE: &str = "\
 usage: hirvelan check [--json] FILE..
        hirvelan print [-w] [-l] [-d] [--indent N] [--json] FILE..
        hirvelan nodes [--json] FILE
+       hirvelan outline [--json] FILE..
        hirvelan help
 ";
 
@@ -15,6 +16,7 @@ hirvelan checks and prints files of Thrift definitions.
 usage: hirvelan check [--json] FILE..
        hirvelan print [-w] [-l] [-d] [--indent N] [--json] FILE..
        hirvelan nodes [--json] FILE
+       hirvelan outline [--json] FILE..
        hirvelan help
 
 check         reads each file and says what is wrong with it
@@ -24,6 +26,8 @@ print         prints each file's definitions in one style, to standard output
   -d          only shows how the print differs, as a patch
   --indent N  spaces a level, 0 to 8; 2 if not given
 nodes         lists a file's records: counts, then a line for each node, ten numbers, and for each comment, nine
+outline       lists each file's definitions, a line for each: file:line:col-line:col kind name, the end one past the last byte;
+              a namespace has its scope before its name; control and invisible characters are escaped, a line feed as \\n (--json has them as they are)
 --json        one line for each file, for other programs
 
 FILE is a file, a folder (all *.thrift in it and below, none whose name starts with a dot), or - for standard input.
@@ -37,6 +41,7 @@ pub enum Verb {
     Check,
     Print,
     Nodes,
+    Outline,
 }
 
 pub struct Task {
@@ -67,8 +72,9 @@ fn verb(word: &OsString) -> Result<Option<Verb>, String> {
         Some("check") => Ok(Some(Verb::Check)),
         Some("print") => Ok(Some(Verb::Print)),
         Some("nodes") => Ok(Some(Verb::Nodes)),
+        Some("outline") => Ok(Some(Verb::Outline)),
         Some("help" | "--help" | "-h") => Ok(None),
-        _ => Err(format!("there is no command {word:?}; say check, print or nodes")),
+        _ => Err(format!("there is no command {word:?}; say check, print, nodes or outline")),
     }
 }
 

@@ -52,9 +52,22 @@ impl Object {
         self.member(name, &format!("[{}]", rows.join(",")))
     }
 
-    pub fn line(mut self) -> Vec<u8> {
-        self.0.push_str("}\n");
-        self.0.into_bytes()
+    pub fn object(self, name: &str, value: Object) -> Object {
+        self.member(name, &value.whole())
+    }
+
+    pub fn objects(self, name: &str, values: impl Iterator<Item = Object>) -> Object {
+        let values: Vec<String> = values.map(Object::whole).collect();
+        self.member(name, &format!("[{}]", values.join(",")))
+    }
+
+    fn whole(mut self) -> String {
+        self.0.push('}');
+        self.0
+    }
+
+    pub fn line(self) -> Vec<u8> {
+        (self.whole() + "\n").into_bytes()
     }
 }
 
@@ -66,5 +79,12 @@ mod tests {
     fn escapes() {
         let line = Object::new().text("a", "\"\\\n\u{1}\u{2028}\u{e9}").number("b", 7).truth("c", true).line();
         assert_eq!(String::from_utf8(line).unwrap(), "{\"a\":\"\\\"\\\\\\n\\u0001\\u2028\u{e9}\",\"b\":7,\"c\":true}\n");
+    }
+
+    #[test]
+    fn objects_in_objects() {
+        let one = |n| Object::new().number("n", n);
+        let line = Object::new().object("a", one(1)).objects("b", [one(2), one(3)].into_iter()).objects("c", std::iter::empty()).line();
+        assert_eq!(String::from_utf8(line).unwrap(), "{\"a\":{\"n\":1},\"b\":[{\"n\":2},{\"n\":3}],\"c\":[]}\n");
     }
 }

@@ -8,6 +8,7 @@ mod explain;
 mod files;
 mod json;
 mod nodes;
+mod outline;
 mod output;
 mod replace;
 mod report;

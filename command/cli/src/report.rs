@@ -25,6 +25,11 @@ fn visible(c: char) -> char {
     }
 }
 
+/// Bytes of the file on one line: what `visible` would replace is escaped, as a name's control characters are.
+pub fn escaped(bytes: &[u8]) -> String {
+    String::from_utf8_lossy(bytes).chars().map(|c| if visible(c) == c { c.to_string() } else { c.escape_default().to_string() }).collect()
+}
+
 fn line_of(bytes: &[u8]) -> Vec<char> {
     String::from_utf8_lossy(bytes).chars().map(visible).collect()
 }
@@ -116,5 +121,6 @@ mod tests {
         let text = excerpt(b"\x1b[31m\x9b", 0, 1);
         assert!(text.chars().all(|c| c == '\n' || !c.is_control()));
         assert_eq!(shown(OsStr::new("a\x1b")), "a\\u{1b}");
+        assert_eq!(escaped("a\r\n\t\x1b\u{85}\u{2028}\u{202e}\u{e9}\\".as_bytes()), "a\\r\\n\\t\\u{1b}\\u{85}\\u{2028}\\u{202e}\u{e9}\\");
     }
 }

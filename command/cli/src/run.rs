@@ -4,6 +4,7 @@ use crate::arguments::{Task, Verb};
 use crate::diff;
 use crate::files::{self, Input, Trouble};
 use crate::nodes;
+use crate::outline;
 use crate::output::{Output, REFUSED, TROUBLE};
 use crate::replace;
 use crate::report;
@@ -64,6 +65,7 @@ fn one(task: &Task, input: &Input, out: &mut Output) {
     match task.verb {
         Verb::Check => check(task, input, &text, out),
         Verb::Nodes => list_nodes(task, input, &text, out),
+        Verb::Outline => list_definitions(task, input, &text, out),
         Verb::Print => print(task, input, &text, out),
     }
 }
@@ -89,6 +91,14 @@ fn list_nodes(task: &Task, input: &Input, text: &[u8], out: &mut Output) {
             }
             tell_refusal(task, input, text, &refusal, out);
         }
+    }
+}
+
+fn list_definitions(task: &Task, input: &Input, text: &[u8], out: &mut Output) {
+    match hirvelan::read(text) {
+        Ok(reading) if task.json => out.write(&outline::json(input.name(), text, &reading)),
+        Ok(reading) => out.write(&outline::listing(input.name(), text, &reading)),
+        Err(refusal) => tell_refusal(task, input, text, &refusal, out),
     }
 }
 

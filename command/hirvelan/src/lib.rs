@@ -9,6 +9,8 @@
 pub mod numbers;
 mod raw;
 
+use numbers::kind;
+
 /// The longest text that is read; a longer one is refused with 20.
 pub const LONGEST: usize = 65_536;
 
@@ -74,6 +76,25 @@ impl Reading {
     pub fn children(&self, node: usize) -> impl Iterator<Item = usize> + '_ {
         let past = self.nodes.get(node).map_or(0, |record| record[PAST] as usize);
         self.siblings(node + 1, past)
+    }
+
+    /// The name record of the node with this number: an include's string with its quotes, a namespace's name without the scope, a service's own and not the one that it extends.
+    pub fn name(&self, node: usize) -> Option<&Node> {
+        self.names(node).nth(usize::from(self.is_namespace(node)))
+    }
+
+    /// The record of its scope, if the node with this number is a namespace.
+    pub fn scope(&self, node: usize) -> Option<&Node> {
+        self.names(node).next().filter(|_| self.is_namespace(node))
+    }
+
+    fn is_namespace(&self, node: usize) -> bool {
+        self.nodes.get(node).is_some_and(|record| record[0] == kind::NAMESPACE)
+    }
+
+    /// A namespace's scope, the name, and the one that a service extends.
+    fn names(&self, node: usize) -> impl Iterator<Item = &Node> + '_ {
+        self.children(node).map(|child| &self.nodes[child]).filter(|record| record[0] == kind::NAME)
     }
 
     /// The node with this number, if it lies before `past`, and its next siblings up to there.
@@ -272,6 +293,21 @@ mod tests {
         }
         assert_eq!((reading.children(1).count(), reading.children(2).count(), reading.children(1000).count()), (1, 0, 0));
         assert_eq!(read(b"").unwrap().definitions().count(), 0);
+    }
+
+    #[test]
+    fn names_and_scopes() {
+        let text = b"include 'a' cpp_include \"b\" namespace * c.d const e.f G=h typedef list<i> J enum K{L}(m='n') struct O{1:P q} union R{} exception S{} service T extends U{V w(1:X y)}";
+        let reading = read(text).unwrap();
+        let over = |record: &Node| std::str::from_utf8(&text[record[3] as usize..record[6] as usize]).unwrap();
+        let names: Vec<&str> = reading.definitions().map(|at| reading.name(at).map_or("", over)).collect();
+        assert_eq!(names, ["'a'", "\"b\"", "c.d", "G", "J", "K", "O", "R", "S", "T"]);
+        let scopes: Vec<&str> = reading.definitions().filter_map(|at| reading.scope(at).map(over)).collect();
+        assert_eq!(scopes, ["*"]);
+        // below definitions too: the field, the function, the enum member and the annotation; a record that is a name has none
+        let below: Vec<&str> = (0..reading.nodes.len()).filter(|at| reading.nodes[*at][1] != ALL).filter_map(|at| reading.name(at).map(over)).collect();
+        assert_eq!(below, ["L", "m", "q", "w", "y"]);
+        assert_eq!((reading.name(1000), reading.scope(1000)), (None, None));
     }
 
     /// A table of nine numbers a record with these parents, and one of ten.
