@@ -90,7 +90,7 @@ pub record Name (text : List ℕ) (rs : List (List ℕ)) (i : ℕ) : Type 0 wher
   pub starts : startsAt (rowAt rs i) ≡ numbers (place name .start)
   pub ends : endsAt (rowAt rs i) ≡ numbers (place name .end)
 
--- ---- no definition is left out
+-- ---- what stands outside definitions (that none is swallowed by the range before it is said by `reading` alone)
 
 -- a token lies in the range of a definition, or is a separator or a comment
 pub data Lies (rs : List (List ℕ)) (t : Lexeme) : Type 0 where
