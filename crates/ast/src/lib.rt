@@ -1,4 +1,6 @@
 // The tree that is read, its nodes and its records.
+#![tactic(auto)]
+
 pub mod column;
 pub mod flag;
 pub mod kind;

@@ -1,4 +1,6 @@
 // Where the printer stands, the records that it prints from, and the output.
+#![tactic(auto)]
+
 
 ghost use Rattle.std.specs.Prelude.{◌≡◌, ◌++◌, ◌-◌, ◌≤◌, ◌<◌, length, take, drop, replicate, get_or};
 ghost use Rattle.ast.specs.Column as C;
@@ -8,7 +10,7 @@ ghost use Rattle.cursor.specs.Onto.{Writes, Moves, number_at, kind_at, parent_at
 use ast::{COMMENT_WIDTH, NO_PARENT, NODE_WIDTH, column};
 
 // The next node record, the next comment record, and how many bytes were printed; one more than the output holds where they did not fit.
-#[derive(Drop)]
+#[derive(Clone, Copy)]
 pub struct Cursor {
     pub node: u32,
     pub comment: u32,
@@ -63,7 +65,7 @@ fn owner_at(comments: &[u32], row: u32) -> u32
 }
 
 // A part of the text, from an index to an index.
-#[derive(Drop)]
+#[derive(Clone, Copy)]
 struct Part {
     start: u32,
     end: u32,

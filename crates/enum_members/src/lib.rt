@@ -1,4 +1,6 @@
 // The number behind each enum member, from a node table.
+#![tactic(auto)]
+
 ghost use Rattle.std.specs.Prelude.{◌≡◌, List, ◌≤◌, length, set};
 ghost use Rattle.ast.specs.Ast.{Definition};
 ghost use Rattle.records.specs.Table.{File};
@@ -11,7 +13,7 @@ use number::Value;
 use records::Part;
 
 // What a numbering answers: how many members there are, or document 02's number, place and length.
-#[derive(Drop)]
+#[derive(Clone, Copy)]
 pub enum Numbered {
     Accepted {
         members: u32,
@@ -24,14 +26,14 @@ pub enum Numbered {
 }
 
 // The number that a member without its own gets, and how many members were numbered.
-#[derive(Drop)]
+#[derive(Clone, Copy)]
 pub struct Walk {
     pub ahead: Value,
     pub members: u32,
 }
 
 // Where a step leads: on, or to the name of a member whose number is outside the range.
-#[derive(Drop)]
+#[derive(Clone, Copy)]
 pub enum Turn {
     On(Walk),
     Off(Part),

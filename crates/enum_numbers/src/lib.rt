@@ -1,4 +1,6 @@
 // The number behind each enum member of a text.
+#![tactic(auto)]
+
 ghost use Rattle.std.specs.Prelude.{◌≡◌};
 ghost use Rattle.enum_numbers.specs.Numbering.{told, numbering};
 ghost use Rattle.enum_numbers.specs.Whole.{refusing, judged};

@@ -17,7 +17,7 @@ use Rattle.writer.specs.Write as W
 use Rattle.demand.specs.Calls.{Given, gives, kept, leaves, trace}
 use Rattle.demand.specs.Demand.{Accepts, answers, prints_it}
 use Rattle.demand.specs.Agree.{Agree}
-use Rattle.file.specs.Run.{Request, ask, File, bytes_of, Memory, call_of, kept_in_law, settled, after, runs, calls_of, any_print, Unaltered}
+use Rattle.file.specs.Run.{Request, ask, File, bytes_of, Memory, call_of, kept_in, settled, after, runs, calls_of, any_print, Unaltered}
 use Rattle.file.proofs.Stored.{space_long}
 use Rattle.demand.proofs.Steps.{file, found, given, onward, file_print, accepts_reads}
 use Rattle.demand.proofs.Demand.{print_fixed, demand_3}
@@ -25,8 +25,8 @@ use Rattle.demand.proofs.Demand.{print_fixed, demand_3}
 -- a print that the file's space holds
 kept_in_law : (x y z : Bool) (n c : ℕ) (p out : List ℕ) (f : File) → ltb (length out) (length p) ≡ z → length p ≤ length f.space →
     let a = W.fitted_out (cond x (refused 24 0 0) (cond y (refused 25 0 0) (accepted (n ∷ c ∷ [])))) p out in
-    bytes_of (kept_in_law a (W.written a p out) f) ≡ kept a (W.written a p out) (bytes_of f)
-unfolding kept_in_law kept W.written W.fitted_out
+    bytes_of (kept_in a (W.written a p out) f) ≡ kept a (W.written a p out) (bytes_of f)
+unfolding kept_in kept W.written W.fitted_out
 kept_in_law true y z n c p out f e h = refl
 kept_in_law false true z n c p out f e h = refl
 kept_in_law false false true n c p out f e h = rw e

@@ -28,7 +28,7 @@ use Rattle.writer.specs.declared.Printed.TheVariants.{Accepted, Refused}
 use Rattle.writer.specs.Write as W
 use Rattle.writer.specs.Write.{Printing, said, told, bytes_written, outcome_at, print_of, printing}
 use Rattle.demand.specs.Calls.{has_read, has_printed, gives}
-use Rattle.file.specs.Run.{Request, ask, requests_of, File, file_of, Memory, memory, call_of, kept_in_law, settled, after, runs}
+use Rattle.file.specs.Run.{Request, ask, requests_of, File, file_of, Memory, memory, call_of, kept_in, settled, after, runs}
 
 -- ---- so many of a slice, or as many as there are
 
@@ -73,18 +73,18 @@ read_is text ns cs ns' cs' a b x y r k l e =
 -- ---- store
 
 module _ (p : Printed) (out : List ℕ) (f : File) where
-  pub store_refused : (e l n : ℕ) → p ≡ Refused e l n → f ≡ kept_in_law (said p) out f
-  unfolding kept_in_law said
+  pub store_refused : (e l n : ℕ) → p ≡ Refused e l n → f ≡ kept_in (said p) out f
+  unfolding kept_in said
   store_refused e l n h = rw h
 
   module _ (n c b : ℕ) (h : p ≡ Accepted n c b) where
-    pub store_long : length f.space < b → f ≡ kept_in_law (said p) out f
-    unfolding kept_in_law said
+    pub store_long : length f.space < b → f ≡ kept_in (said p) out f
+    unfolding kept_in said
     store_long l = rw (h, lt-leb b (length f.space) l)
 
     pub store_in : (copied space' : List ℕ) → b ≤ length f.space → b ≤ length out → copied ≡ take b out ++ drop (length (take b out)) f.space
-        → length copied ≡ length f.space → space' ≡ take b copied ++ replicate (length copied - b) 0 → file_of b space' ≡ kept_in_law (said p) out f
-    unfolding kept_in_law said W.written
+        → length copied ≡ length f.space → space' ≡ take b copied ++ replicate (length copied - b) 0 → file_of b space' ≡ kept_in (said p) out f
+    unfolding kept_in said W.written
     store_in copied space' l k e s w =
         let t : length (take b out) ≡ b = length-take-le b out k in
         let u : take b copied ≡ take b out = ap (take b) e ∙ take_at (take b out) (drop (length (take b out)) f.space) b t in
@@ -150,15 +150,15 @@ pub print_is : (space space' ns ns' cs cs' out out' : List ℕ) (file indent a b
     → x ≡ min a (length ns) → y ≡ min b (length cs) → z ≡ min c (length out)
     → length out' ≡ length (take z out)
     → told p ns' cs' out' ≡ printing (take file space) indent (take x ns) (take y cs) (take z out)
-    → file_of r space' ≡ kept_in_law (said p) (take z (out' ++ drop z out)) (file_of file space)
+    → file_of r space' ≡ kept_in (said p) (take z (out' ++ drop z out)) (file_of file space)
     → memory r space' (ns' ++ drop x ns) (cs' ++ drop y cs) (out' ++ drop z out)
     ≡ after indent (ask true a b c) (memory file space ns cs out)
 unfolding after settled call_of gives
 print_is space space' ns ns' cs cs' out out' file indent a b c x y z r p i j k l e s =
     let q : told p ns' cs' out' ≡ printing (take file space) indent (take a ns) (take b cs) (take c out) =
     e ∙ rw (i, j, k, take_min a ns, take_min b cs, take_min c out) in
-    let f : file_of r space' ≡ kept_in_law (said p) out' (file_of file space) =
-    s ∙ ap (λ (o : List ℕ). kept_in_law (said p) o (file_of file space)) (lent_out out out' z l (omega arith)) in
+    let f : file_of r space' ≡ kept_in (said p) out' (file_of file space) =
+    s ∙ ap (λ (o : List ℕ). kept_in (said p) o (file_of file space)) (lent_out out out' z l (omega arith)) in
     ap (λ (g : File). record { file = g; nodes = ns' ++ drop x ns; comments = cs' ++ drop y cs; output = out' ++ drop z out }) f
     ∙ rw (i, j, k, drop_min a ns, drop_min b cs, drop_min c out)
     (ap (λ (w : Printing). settled (ask true a b c) (has_printed w) (memory file space ns cs out)) q)
@@ -191,13 +191,13 @@ module _ (f : File) where
   space_by ns b out true e = written_long ns b out f.space (leb-true _ _ e)
   space_by ns b out false e = refl
 
-  kept_size : (a : Outcome (List ℕ)) (out : List ℕ) → f.size ≤ length f.space → (kept_in_law a out f).size ≤ length f.space
-  unfolding kept_in_law
+  kept_size : (a : Outcome (List ℕ)) (out : List ℕ) → f.size ≤ length f.space → (kept_in a out f).size ≤ length f.space
+  unfolding kept_in
   kept_size (refused e p n) out h = h
   kept_size (accepted ns) out h = size_by (bytes_written ns) _ _ refl h
 
-  kept_space : (a : Outcome (List ℕ)) (out : List ℕ) → length (kept_in_law a out f).space ≡ length f.space
-  unfolding kept_in_law
+  kept_space : (a : Outcome (List ℕ)) (out : List ℕ) → length (kept_in a out f).space ≡ length f.space
+  unfolding kept_in
   kept_space (refused e p n) out = refl
   kept_space (accepted ns) out = space_by ns (bytes_written ns) out _ refl
 

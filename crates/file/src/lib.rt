@@ -1,4 +1,6 @@
 // Demand 3: any list of readings and printings of one file.
+#![tactic(auto)]
+
 
 ghost use Rattle.std.specs.Prelude.{◌≡◌, true, not, ◌++◌, ℕ, ◌+◌, ◌≤◌, min, eqb, length, take, drop, get_or};
 ghost use Rattle.parser.specs.Read.{reading};
@@ -9,7 +11,7 @@ ghost use Rattle.writer.specs.Write.{said};
 use writer::Printed;
 
 // A reading or a printing, and how many numbers of each table and bytes of the output it is lent.
-#[derive(Drop)]
+#[derive(Clone, Copy)]
 struct Request {
     prints: bool,
     nodes: usize,

@@ -1,4 +1,6 @@
 // The lexer: from any byte string to its tokens, proved.
+#![tactic(auto)]
+
 pub mod error;
 pub mod location;
 pub mod table;
@@ -23,7 +25,7 @@ use utf8::Found;
 pub const LIMIT: usize = 65536;
 
 // What the check of a whole text finds.
-#[derive(Drop)]
+#[derive(Clone, Copy)]
 pub enum Checked {
     Fine,
     // over 65,536 bytes

@@ -8,7 +8,7 @@ ghost use Rattle.lexer.specs.Location.{Placed, ends_line, behind, pass, span_of,
 use token::Token;
 
 // A place: line and column from 1, byte offset from 0.
-#[derive(Drop)]
+#[derive(Clone, Copy)]
 pub struct Span {
     pub line: u32,
     pub column: u32,
@@ -16,21 +16,21 @@ pub struct Span {
 }
 
 // From the first byte to one past the last.
-#[derive(Drop)]
+#[derive(Clone, Copy)]
 pub struct LOC {
     pub start: Span,
     pub end: Span,
 }
 
 // A token and where it stands.
-#[derive(Drop)]
+#[derive(Clone, Copy)]
 pub struct ParserToken {
     pub token: Token,
     pub loc: LOC,
 }
 
 // The lexer by value: its offset, the lines passed, the offset where the line starts.
-#[derive(Drop)]
+#[derive(Clone, Copy)]
 pub struct Lexer {
     pub at: u32,
     pub line: u32,
@@ -38,7 +38,7 @@ pub struct Lexer {
 }
 
 // What stands behind the lexer's offset, blanks passed.
-#[derive(Drop)]
+#[derive(Clone, Copy)]
 pub enum Next {
     On(ParserToken, Lexer),
     End,

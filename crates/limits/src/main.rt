@@ -1,5 +1,7 @@
 // Document 01's edges that need long texts or small tables: each case is a line, the answer and then both tables afterwards.
 // The tables are lent full of sevens.
+#![tactic(auto)]
+
 ghost use Rattle.std.specs.Prelude.{◌+◌, ◌≤◌, length};
 
 use libc::STDOUT_FILENO;

@@ -1,4 +1,6 @@
 // What C and Rust programs link: numbers and lent slices only.
+#![tactic(auto)]
+
 ghost use Rattle.std.specs.Prelude.{◌≡◌, min, length, take};
 ghost use Rattle.lexer.specs.Outcome.{numbers};
 ghost use Rattle.lexer.specs.Check.{checked};

@@ -1,5 +1,7 @@
 // Stored tables moved from nine numbers a record to ten and back.
 // A record's ancestors are found by the parents, from the record before it up to its own parent: each record is passed once in a table, however deep.
+#![tactic(auto)]
+
 ghost use Rattle.std.specs.Prelude.{◌≡◌, List, [], ◌∷◌, ℕ, suc, ◌≤◌, ◌*◌, length};
 ghost use Rattle.lexer.specs.Outcome.{refused};
 ghost use Rattle.ast.specs.Records.{node_width, no_parent};
@@ -17,7 +19,7 @@ const NARROW_WIDTH: usize = ast::COMMENT_WIDTH;
 pub const MOST_RECORDS: usize = 65536;
 
 // What a move answers: how many records, or document 02's number and place.
-#[derive(Drop)]
+#[derive(Clone, Copy)]
 pub enum Moved {
     Accepted { records: u32 },
     Refused { number: u32, place: u32 },

@@ -1,4 +1,6 @@
 // The value of a number token.
+#![tactic(auto)]
+
 ghost use Rattle.std.specs.Prelude.{◌≡◌, ◌<◌, pos, neg_ℤ};
 ghost use Rattle.std.proofs.Math.IntN.{suc_ℤ};
 ghost use Rattle.number.specs.Value.{digit, digits, integer, hex, sized, fitted};
@@ -11,14 +13,14 @@ const MOST_SIZE: u32 = 2147483647;
 const LEAST_SIZE: u32 = 2147483648;
 
 // A number up to a bound, or one past it.
-#[derive(Drop)]
+#[derive(Clone, Copy)]
 pub enum Size {
     UpTo(u32),
     Over,
 }
 
 // A signed number of 32 bits, or one that 32 bits do not hold.
-#[derive(Drop)]
+#[derive(Clone, Copy)]
 pub enum Value {
     Is(i32),
     Outside,

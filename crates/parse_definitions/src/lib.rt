@@ -1,4 +1,6 @@
 // Definitions, the keyword ahead (rico's parser/definitions.rs); `rest` is lent from the definition's own record on.
+#![tactic(auto)]
+
 ghost use Rattle.steps.specs.Into.{Puts, Keeps, Lent, Reads, Quiet};
 ghost use Rattle.parse_definitions.specs.Into.{begin_in, own_record_in, include_in, scope_in, namespace_in, typed_name_in, const_in, typedef_in, enum_in, structure_in, extends_in, service_head_in, service_in, definition_in};
 

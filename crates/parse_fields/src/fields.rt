@@ -206,7 +206,7 @@ fn parse_field(
 }
 
 // A list of fields: the kinds of its brackets, and the flag of each field.
-#[derive(Drop)]
+#[derive(Clone, Copy)]
 pub struct FieldList {
     pub opener: u32,
     pub closer: u32,

@@ -1,4 +1,6 @@
 // Names, annotations and fields (rico's parser/definitions.rs).
+#![tactic(auto)]
+
 pub mod annotations;
 pub mod fields;
 
@@ -8,7 +10,7 @@ ghost use Rattle.parse_fields.specs.Into.{token_in, name_in};
 use steps::state::{Parent, Parsed, State};
 
 // A token that is read as a node: its kind, the refusal of any other, the node's kind.
-#[derive(Drop)]
+#[derive(Clone, Copy)]
 pub struct Leaf {
     pub token: u32,
     pub number: u32,

@@ -27,7 +27,7 @@ use Rattle.steps.proofs.Bytes.{
 }
 use Rattle.steps.proofs.LoopForms.{loop_rests}
 use Rattle.parse_values.specs.Into.{
-  leaf_type_law,
+  leaf_type,
   container_type,
   contained_in,
   complex_in,
@@ -62,8 +62,8 @@ module _ (text : List ℕ) where
   unfolding type_by
   type_by_falls inside f b p st t u =
       after_w (take_falls text st t u) λ st₁ t₁ u₁ h. weak_w (λ n i. omega arith)
-      (cond_w (eqb (leaf_type_law st.kind) 0) (cond_w (eqb (container_type st.kind) 0) (refused_w 4 st) (f st (container_type st.kind) st₁ t₁ u₁))
-      (leaf_rests text (leaf_type_law st.kind) b p st₁ t₁ u₁))
+      (cond_w (eqb (leaf_type st.kind) 0) (cond_w (eqb (container_type st.kind) 0) (refused_w 4 st) (f st (container_type st.kind) st₁ t₁ u₁))
+      (leaf_rests text (leaf_type st.kind) b p st₁ t₁ u₁))
 
   pub type_falls : (d b p : ℕ) → Falls text (type_in text d b p)
   unfolding type_in

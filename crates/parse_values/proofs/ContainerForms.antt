@@ -14,7 +14,7 @@ use Rattle.parse_values.specs.Into.{
   container_type,
   elements_in,
   is_opener,
-  leaf_type_law,
+  leaf_type,
   leaf_value,
   list_in,
   map_in,
@@ -51,13 +51,13 @@ type_rest text b p st leaf container none d st₁ t u =
     (leaf_in leaf b p st₁ t u)
 
 type_at : (text : List ℕ) (d b p : ℕ) (st : State) (t u : List ℕ) → type_in text d b p st t u ≡
-    after (take_in text st t u) (type_rest text b p st (leaf_type_law st.kind) (container_type st.kind) (eqb d 0) (d - 1))
+    after (take_in text st t u) (type_rest text b p st (leaf_type st.kind) (container_type st.kind) (eqb d 0) (d - 1))
 unfolding type_in type_by
 type_at text zero b p st t u = refl
 type_at text (suc d) b p st t u =
-    by_depth (λ z n. after (take_in text st t u) (type_rest text b p st (leaf_type_law st.kind) (container_type st.kind) z n)) d
+    by_depth (λ z n. after (take_in text st t u) (type_rest text b p st (leaf_type st.kind) (container_type st.kind) z n)) d
 
-pub type_is : (text : List ℕ) (d b p : ℕ) (st : State) (t u : List ℕ) {leaf container : ℕ} → leaf ≡ leaf_type_law st.kind → container ≡ container_type st.kind →
+pub type_is : (text : List ℕ) (d b p : ℕ) (st : State) (t u : List ℕ) {leaf container : ℕ} → leaf ≡ leaf_type st.kind → container ≡ container_type st.kind →
     type_in text d b p st t u ≡ after (take_in text st t u) (type_rest text b p st leaf container (eqb d 0) (d - 1))
 type_is text d b p st t u {leaf} {container} l c =
     type_at text d b p st t u

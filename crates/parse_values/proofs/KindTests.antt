@@ -11,19 +11,19 @@ use Rattle.ast.specs.Tree.{value_kind}
 use Rattle.parser.specs.Types.{leaf_types, container_types}
 use Rattle.parser.specs.Values.{leaf_values, openers}
 use Rattle.parser.proofs.KindLaws.{all, same, agree, alike, Tests}
-use Rattle.parse_values.specs.Into.{leaf_type_law, container_type, leaf_value, is_opener}
+use Rattle.parse_values.specs.Into.{leaf_type, container_type, leaf_value, is_opener}
 
 pub opener_test : Tests is_opener openers
 unfolding all same code is among is_opener
 opener_test = record { agrees = agree (λ k. is_opener (code k)) (λ k. among k openers) refl refl; fails = refl }
 
-pub leaf_type_none : (k : Token) → eqb (leaf_type_law (code k)) 0 ≡ not (among k leaf_types)
-unfolding all same code is among leaf_type_law
-leaf_type_none = agree (λ k. eqb (leaf_type_law (code k)) 0) (λ k. not (among k leaf_types)) refl refl
+pub leaf_type_none : (k : Token) → eqb (leaf_type (code k)) 0 ≡ not (among k leaf_types)
+unfolding all same code is among leaf_type
+leaf_type_none = agree (λ k. eqb (leaf_type (code k)) 0) (λ k. not (among k leaf_types)) refl refl
 
-pub leaf_type_law : (k : Token) → among k leaf_types ≡ true → leaf_type_law (code k) ≡ cond (is k T.Identifier) 19 18
-unfolding all code is among leaf_type_law
-leaf_type_law = alike (λ k. among k leaf_types) (λ k. leaf_type_law (code k)) (λ k. cond (is k T.Identifier) 19 18) refl refl
+pub leaf_type_law : (k : Token) → among k leaf_types ≡ true → leaf_type (code k) ≡ cond (is k T.Identifier) 19 18
+unfolding all code is among leaf_type
+leaf_type_law = alike (λ k. among k leaf_types) (λ k. leaf_type (code k)) (λ k. cond (is k T.Identifier) 19 18) refl refl
 
 pub container_type_none : (k : Token) → eqb (container_type (code k)) 0 ≡ not (among k container_types)
 unfolding all same code is among container_type

@@ -19,7 +19,7 @@ use Rattle.parser.specs.Steps.{kind, place, span, St, MissingTypeDeclaration, P,
 use Rattle.parser.specs.Types as D
 use Rattle.parser.specs.Types.{leaf_types, container_types, complex_type, map_type, field_type}
 use Rattle.steps.specs.Into.{M, leaf_in, node_in}
-use Rattle.parse_values.specs.Into.{leaf_type_law, container_type, contained_in, complex_in, type_by, type_in}
+use Rattle.parse_values.specs.Into.{leaf_type, container_type, contained_in, complex_in, type_by, type_in}
 use Rattle.parse_values.proofs.KindTests.{leaf_type_none, leaf_type_law, container_type_none, container_type_law}
 use Rattle.steps.proofs.ForestLaws.{◌⊕◌}
 use Rattle.steps.proofs.Seen.{First, last_of, Frame, At, less, fewer, regrown, Meant, went, bind_m, next_none, unless_m, needs_m, grouped, Means}
@@ -85,10 +85,10 @@ module _ (text : List ℕ) (short : length text ≤ 65536) where
       needs_m UnexpectedEOF MissingTypeDeclaration _ s (next_none _)
       (bind_m (take_m text short _ h) λ tok st₁ t₁ u₁ s₁ h₁.
       let c = h₁.first.coded in
-      unless_m _ _ s₁ _ (among (kind tok) leaf_types) (ap (λ (n : ℕ). eqb (leaf_type_law n) 0) c ∙ leaf_type_none (kind tok))
+      unless_m _ _ s₁ _ (among (kind tok) leaf_types) (ap (λ (n : ℕ). eqb (leaf_type n) 0) c ∙ leaf_type_none (kind tok))
       (λ y. went (less
-      (regrown (ap (λ (z : Tree). f ⊕ single z) (ap (λ (n : ℕ). leaf n tok) (ap leaf_type_law c ∙ leaf_type_law (kind tok) y) ∙ common_tree tok))
-      (leaf_at (leaf_type_law st.kind) tok h₁.at h₁.there))))
+      (regrown (ap (λ (z : Tree). f ⊕ single z) (ap (λ (n : ℕ). leaf n tok) (ap leaf_type c ∙ leaf_type_law (kind tok) y) ∙ common_tree tok))
+      (leaf_at (leaf_type st.kind) tok h₁.at h₁.there))))
       (λ y. unless_m _ _ s₁ _ (among (kind tok) container_types) (ap (λ (n : ℕ). eqb (container_type n) 0) c ∙ container_type_none (kind tok))
       (λ z. insides tok st₁ t₁ u₁ s₁ h₁.first z h₁.at h₁.there)
       (λ z. refuse_at_m 4 st tok s₁ h₁.first)))

@@ -1,4 +1,6 @@
 // The line and the column of a place, by the lexer's rule.
+#![tactic(auto)]
+
 ghost use Rattle.std.specs.Prelude.{◌≡◌, ◌+◌, ◌<◌, ◌≤◌, length};
 ghost use Rattle.lexer.specs.Limit.{limit};
 ghost use Rattle.token.specs.Tables.{tables};
@@ -12,7 +14,7 @@ use lexer::{location, table};
 use token::{Scan, Token};
 
 // A token and how many of its bytes are passed.
-#[derive(Drop)]
+#[derive(Clone, Copy)]
 struct Piece {
     token: Token,
     length: usize,

@@ -1,5 +1,7 @@
 // Prints the text on standard input, at the indent that the argument gives, 2 if there is none; a refusal is a line on standard error.
 // There is no exit status in Rattle: what is on standard error tells that nothing was printed, or not all.
+#![tactic(auto)]
+
 mod refusal;
 
 ghost use Rattle.std.specs.Prelude.{◌≤◌};
@@ -20,7 +22,7 @@ const COMMENTS: usize = 294912;
 const PRINT: usize = 393216;
 
 // The indent that the arguments give.
-#[derive(Drop)]
+#[derive(Clone, Copy)]
 enum Indent {
     Spaces(u32),
     Unclear,

@@ -1,5 +1,7 @@
 // Document 01's edges of the printer: each case is a line, the answer and how many numbers of both tables and bytes of the output past it are not 0.
 // An accepted case's print follows. Tables and output are lent full of sevens.
+#![tactic(auto)]
+
 ghost use Rattle.std.specs.Prelude.{◌≤◌};
 
 use libc::STDOUT_FILENO;

@@ -1,4 +1,6 @@
 // From a text and its tables to its print.
+#![tactic(auto)]
+
 ghost use Rattle.std.specs.Prelude.{◌≡◌};
 ghost use Rattle.writer.specs.Write.{told, printing};
 ghost use Rattle.printer.specs.Onto.{refusing, fits, writing};

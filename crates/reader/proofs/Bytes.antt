@@ -7,10 +7,10 @@ use Rattle.ast.specs.Records.{node_width}
 use Rattle.steps.specs.Into.{Out, rest_at}
 use Rattle.steps.proofs.Bytes.{Falls, Rests, Within, within, stopped, rest_rest, skip_rests, comments_rests}
 use Rattle.parse_definitions.proofs.Bytes.{definition_falls}
-use Rattle.reader.specs.Into.{in_rest_law, rest_in, between_in}
+use Rattle.reader.specs.Into.{in_rest, rest_in, between_in}
 
-rest_w : {text : List ℕ} {x b : ℕ} {o : Out} (i : ℕ) (t : List ℕ) → Within text x b o → Within text x b (in_rest_law i t o)
-unfolding in_rest_law
+rest_w : {text : List ℕ} {x b : ℕ} {o : Out} (i : ℕ) (t : List ℕ) → Within text x b o → Within text x b (in_rest i t o)
+unfolding in_rest
 rest_w i t (within {st = st} h) = within {st = st} h
 rest_w i t stopped = stopped
 

@@ -45,7 +45,7 @@ use Rattle.parser.specs.Definitions.{parse_definition, over, document_end, parse
 use Rattle.parser.specs.Read.{parsed, error, answered, outcome_by, outcome, fitted, answer, left, rows_by, Reading, reading}
 use Rattle.steps.specs.Packed.{packed, unpacked, packed_loc, unpacked_loc}
 use Rattle.steps.specs.Into.{Out, done, stop, refused, closes_at, lexer_at, rest_at, wiped}
-use Rattle.reader.specs.Into.{in_rest_law, rest_in, over_in, between_in, document_in, beginning, refusing, ended, refusing_at, fits, judged, unscanned, settled, parsing}
+use Rattle.reader.specs.Into.{in_rest, rest_in, over_in, between_in, document_in, beginning, refusing, ended, refusing_at, fits, judged, unscanned, settled, parsing}
 use Rattle.reader.proofs.Whole.{read_unknown}
 use Rattle.steps.proofs.PackLaws.{unpacked_packed, loc_back, small_span}
 use Rattle.steps.proofs.TableLaws.{lay, lay_append, length_lay, lay_rest, wiped_lay, node_some, comment_some}
@@ -119,8 +119,8 @@ module _ {text : List ℕ} {i : ℕ} {fr : Frame} {f : Forest} {st : State} {t u
       }
 
 in_rest_law : {A : Type 0} {Q R : A → State → List ℕ → List ℕ → St → Type 0} {o : Out} {r : Res A} (k : ℕ) (t : List ℕ) → Meant Q o r
-    → ((a : A) (st : State) (t' u : List ℕ) (s : St) → Q a st t' u s → R a st (take k t ++ t') u s) → Meant R (in_rest_law k t o) r
-unfolding in_rest_law
+    → ((a : A) (st : State) (t' u : List ℕ) (s : St) → Q a st t' u s → R a st (take k t ++ t') u s) → Meant R (in_rest k t o) r
+unfolding in_rest
 in_rest_law k t (went {a = a} {st = st} {t = t'} {u = u} {s = s} q) g = went (g a st t' u s q)
 in_rest_law k t halted g = halted
 

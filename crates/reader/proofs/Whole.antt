@@ -30,7 +30,7 @@ use Rattle.steps.specs.declared.state.Parsed.TheVariants.{On, Refused}
 use Rattle.parser.specs.Read.{Reading, outcome_by, outcome, answer, left, reading}
 use Rattle.steps.specs.Into.{Out, done, stop, shows, rest_at, loop_in, closes_at}
 use Rattle.parse_definitions.specs.Into.{definition_in}
-use Rattle.reader.specs.Into.{in_rest_law, rest_in, between_in, over_in, document_in, beginning, refusing, refusing_at, judged, unscanned, settled, parsing}
+use Rattle.reader.specs.Into.{in_rest, rest_in, between_in, over_in, document_in, beginning, refusing, refusing_at, judged, unscanned, settled, parsing}
 
 pub document_is : (text : List ℕ) (st : State) (t u : List ℕ) → document_in text st t u ≡
     loop_in text (closes_at 255) (between_in text) over_in (rest_in text) st t u
@@ -42,8 +42,8 @@ lent_tail at t u =
     let h : length (drop at t) ≤ length t - at = omega (arith, length-drop at t) in
     rw (drop_of_length-le (drop at t) h, append-nil u) refl
 
-shown_rest : (a : Parsed) (i : ℕ) (t t₁ t₂ u' : List ℕ) → t₂ ≡ take i t ++ t₁ → shows a t₂ u' ≡ in_rest_law i t (shows a t₁ u')
-unfolding shows in_rest_law
+shown_rest : (a : Parsed) (i : ℕ) (t t₁ t₂ u' : List ℕ) → t₂ ≡ take i t ++ t₁ → shows a t₂ u' ≡ in_rest i t (shows a t₁ u')
+unfolding shows in_rest
 shown_rest (On st) i t t₁ t₂ u' e = ap (λ (x : List ℕ). done st x u') e
 shown_rest (Refused n l) i t t₁ t₂ u' e = refl
 
@@ -52,8 +52,8 @@ pub rest_is : (text : List ℕ) (st : State) (at : ℕ) (t t₁ u u' : List ℕ)
 unfolding rest_in
 rest_is text st at t t₁ u u' a h e =
     shown_rest a at t t₁ _ u' (lent_tail at t t₁)
-    ∙ ap (in_rest_law at t) (e ∙ ap (λ (x : List ℕ). definition_in text st x u) (part t at))
-    ∙ ap (λ (i : ℕ). in_rest_law i t (definition_in text st (drop i t) u)) h
+    ∙ ap (in_rest at t) (e ∙ ap (λ (x : List ℕ). definition_in text st x u) (part t at))
+    ∙ ap (λ (i : ℕ). in_rest i t (definition_in text st (drop i t) u)) h
 
 refusing_same : (e p n : ℕ) (t u t' u' : List ℕ) → length t' ≡ length t → length u' ≡ length u → refusing e p n t' u' ≡ refusing e p n t u
 unfolding refusing cleared

@@ -1,4 +1,6 @@
 // From a text to its definitions and both tables.
+#![tactic(auto)]
+
 ghost use Rattle.std.specs.Prelude.{◌≡◌, List, ℕ, ◌≤◌, length};
 ghost use Rattle.lexer.specs.Limit.{limit};
 ghost use Rattle.parser.specs.Read.{reading, told};

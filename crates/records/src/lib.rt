@@ -1,4 +1,6 @@
 // Tables by record number.
+#![tactic(auto)]
+
 ghost use Rattle.std.specs.Prelude.{◌≡◌, ◌≤◌, ◌<◌, get_or};
 ghost use Rattle.ast.specs.Column as C;
 ghost use Rattle.ast.specs.Records.{comment_width, node_width, room};
@@ -64,7 +66,7 @@ pub fn past(nodes: &[u32], n: u32) -> u32
 }
 
 // A part of the text, from an index to an index.
-#[derive(Drop)]
+#[derive(Clone, Copy)]
 pub struct Part {
     pub start: u32,
     pub end: u32,

@@ -5,6 +5,8 @@
 //     the refusal's number (0: accepted), place and length
 //     if accepted, the counts of nodes and of comments, ten numbers for each node, then nine for each comment;
 //     three prints, each its length and its bytes
+#![tactic(auto)]
+
 ghost use Rattle.std.specs.Prelude.{◌≡◌, true, cond, not, ◌+◌, ◌≤◌, length};
 ghost use Rattle.io.specs.Counts.{IsPrefixLen};
 ghost use Rattle.replay.specs.List.{number_at, ZeroFrom};
@@ -30,7 +32,7 @@ fn one_more_if(so: bool, n: u32) -> u32
 }
 
 // What was found in the texts so far: how many differ, and how many have CR LF.
-#[derive(Drop)]
+#[derive(Clone, Copy)]
 pub struct Tally {
     pub differing: u32,
     pub paired: u32,

@@ -3,6 +3,8 @@
 //
 // The crate replay says what the list holds. Space, tables and output are full of sevens at first.
 // If a printing of a list was kept, it makes that list again: a file once printed must stay.
+#![tactic(auto)]
+
 ghost use Rattle.std.specs.Prelude.{◌+◌, ◌≤◌, length};
 
 use replay::{COMMENTS, NODES, SPACE};
@@ -20,7 +22,7 @@ const PRINTING: u32 = 1;
 const ALL: u32 = 4294967295;
 
 // How much of both tables and of the output a printing of a text takes.
-#[derive(Drop)]
+#[derive(Clone, Copy)]
 struct Needs {
     nodes: u32,
     comments: u32,
@@ -28,7 +30,7 @@ struct Needs {
 }
 
 // A call, READING or not, and how much it is lent.
-#[derive(Drop)]
+#[derive(Clone, Copy)]
 struct Request {
     kind: u32,
     nodes: usize,
@@ -37,7 +39,7 @@ struct Request {
 }
 
 // The file's length after some calls, what the printings among them came to, and whether `file::run` leaves the same.
-#[derive(Drop)]
+#[derive(Clone, Copy)]
 struct Steps {
     length: usize,
     accepted: u32,
@@ -47,7 +49,7 @@ struct Steps {
 }
 
 // What was called and compared.
-#[derive(Drop)]
+#[derive(Clone, Copy)]
 struct Tally {
     calls: u32,
     accepted: u32,

@@ -3,6 +3,8 @@
 // The crate replay says what the list holds. The tables are lent full of sevens; what lies past the answer must be 0 afterwards.
 // Rico counts CR LF between tokens for two lines, the port for one (docs/DIFFERENCES.md). In a text that has it lines are not compared with rico's, all else is;
 // its tables must be those of the text with a space for each `\r` directly before `\n`: the same tokens, and no CR LF.
+#![tactic(auto)]
+
 ghost use Rattle.std.specs.Prelude.{◌<◌};
 
 use parser::Answer;

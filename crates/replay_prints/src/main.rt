@@ -2,12 +2,14 @@
 //
 // The crate replay says what the list holds. Tables and output are lent full of sevens; what lies past the answer must be 0 afterwards.
 // A print has to be its own print, whether its fields are numbered or not.
+#![tactic(auto)]
+
 use lexer::error;
 use replay::{COMMENTS, NODES, SPACE};
 use writer::Printed;
 
 // What was printed and compared.
-#[derive(Drop)]
+#[derive(Clone, Copy)]
 struct Tally {
     prints: u32,
     differing: u32,

@@ -5,6 +5,8 @@
 //     its length, and its bytes
 //     rico's verdict (0 fine, 21 no UTF-8, 22 no token), and its place
 //     the count of its tokens, and seven numbers for each: the kind, then index, line and column of the start and of the end
+#![tactic(auto)]
+
 ghost use Rattle.std.specs.Prelude.{◌≡◌, ◌+◌, ◌≤◌, length};
 ghost use Rattle.lexer.specs.Limit.{limit};
 ghost use Rattle.token.specs.Tables.{tables};
@@ -19,7 +21,7 @@ use replay::Tally;
 const ROW: usize = 28;
 
 // A text of the list: its bytes from `start` to `end`, its tokens from `rows` to `next`.
-#[derive(Drop)]
+#[derive(Clone, Copy)]
 struct Text {
     start: usize,
     end: usize,
@@ -30,7 +32,7 @@ struct Text {
 }
 
 // What stands at a place of the list.
-#[derive(Drop)]
+#[derive(Clone, Copy)]
 enum Read {
     Text(Text),
     // less than a text
@@ -38,7 +40,7 @@ enum Read {
 }
 
 // What the comparison of all texts finds.
-#[derive(Drop)]
+#[derive(Clone, Copy)]
 enum Outcome {
     // how many texts differ, and how many have CR LF
     Compared(Tally),

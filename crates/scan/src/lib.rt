@@ -1,4 +1,6 @@
 // Which token starts a text, and how long it is: branches over the classes of its bytes. A byte is looked at once, but for the stars of a block comment and two bytes at most behind a token.
+#![tactic(auto)]
+
 mod words;
 
 ghost use Rattle.std.specs.Prelude.{◌≡◌, ◌&&◌, ◌||◌, eqb, leb, ltb, ◌+◌, ◌<◌, ◌≤◌, length, drop, get_or};

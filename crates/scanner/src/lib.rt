@@ -1,4 +1,6 @@
 // The thin reader: it keeps a text with its offset, and gives one token a call.
+#![tactic(auto)]
+
 ghost use Rattle.std.specs.Prelude.{◌≡◌};
 ghost use Rattle.token.specs.Tables.{tables};
 ghost use Rattle.scanner.specs.Piece.{piece_at};
@@ -8,14 +10,14 @@ use lexer::table;
 use token::{Scan, Token};
 
 // A text, and the offset behind what was read of it.
-#[derive(Drop)]
+#[derive(Clone, Copy)]
 pub struct Reader<'a> {
     pub text: &'a [u8],
     pub at: usize,
 }
 
 // What stands behind an offset, blanks and line ends passed over.
-#[derive(Drop)]
+#[derive(Clone, Copy)]
 pub enum What {
     Token(Token),
     // nothing is left
@@ -25,7 +27,7 @@ pub enum What {
 }
 
 // It with its bytes: from `start` on and below `end`. There are none where there is no token.
-#[derive(Drop)]
+#[derive(Clone, Copy)]
 pub struct Piece {
     pub what: What,
     pub start: usize,

@@ -1,5 +1,7 @@
 // What the readers above share: the parser by value and its steps (rico's parser/token.rs), the tokens ahead, records in a lent table, places in 64 bits, ids.
 // Every step holds for any state and any table: none has to be well formed, and what does not fit is counted, not written.
+#![tactic(auto)]
+
 pub mod id;
 pub mod packed;
 pub mod state;
@@ -32,7 +34,7 @@ fn lexer_at(place: u64) -> Lexer
 }
 
 // A token: where it stands and its kind, NONE where there is none.
-#[derive(Drop)]
+#[derive(Clone, Copy)]
 pub struct Found {
     pub start: u64,
     pub end: u64,

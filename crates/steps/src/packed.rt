@@ -8,7 +8,7 @@ use lexer::location::Span;
 const UNIT: u64 = 1048576;
 
 // A LOC, each of its places in 64 bits.
-#[derive(Drop)]
+#[derive(Clone, Copy)]
 pub struct Range {
     pub start: u64,
     pub end: u64,

@@ -7,7 +7,7 @@ use crate::{Found, table};
 use lexer::error;
 
 // The lexer stands at the end of the token ahead.
-#[derive(Drop)]
+#[derive(Clone, Copy)]
 pub struct State {
     // where the token ahead stands; where none is left, the last one
     pub loc: Range,
@@ -27,14 +27,14 @@ pub struct State {
 pub const NONE: u32 = 255;
 
 // What a reader leaves: the state behind what it read, or document 01's number and the token's place.
-#[derive(Drop)]
+#[derive(Clone, Copy)]
 pub enum Parsed {
     On(State),
     Refused(u32, Range),
 }
 
 // The node that others are read under.
-#[derive(Drop)]
+#[derive(Clone, Copy)]
 pub struct Parent {
     // the number of the first record in the table that is lent
     pub base: u32,

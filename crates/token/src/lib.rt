@@ -1,10 +1,12 @@
 // The kinds of token, under the names and in the order of rico's lexer/token.rs.
+#![tactic(auto)]
+
 pub mod kind;
 
 ghost use Rattle.std.specs.Prelude.{◌≡◌};
 ghost use Rattle.token.specs.Code.{code};
 
-#[derive(Drop)]
+#[derive(Clone, Copy)]
 pub enum Token {
     Newline,
     Namespace,
@@ -62,7 +64,7 @@ pub enum Token {
 }
 
 // What a scan of the start of a text finds.
-#[derive(Drop)]
+#[derive(Clone, Copy)]
 pub enum Scan {
     // no token starts here
     Miss,
@@ -72,6 +74,7 @@ pub enum Scan {
 
 impl Token {
     // The number of a kind: its place in the enum, from 0.
+    #[tactic(auto, unfolding(crate::specs::Code::code))]
     pub fn code(self) -> u32
         ensures { result ≡ code self }
     {

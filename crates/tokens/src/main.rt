@@ -1,4 +1,6 @@
 // Writes the tokens of the text on standard input, a line for each, or one line for the refusal of the text.
+#![tactic(auto)]
+
 ghost use Rattle.std.specs.Prelude.{◌≡◌, ◌+◌, ◌≤◌, length};
 ghost use Rattle.lexer.specs.Limit.{limit};
 ghost use Rattle.token.specs.Tables.{tables};

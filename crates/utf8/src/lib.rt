@@ -1,4 +1,6 @@
 // UTF-8 as RFC 3629 has it: where a text stops being UTF-8.
+#![tactic(auto)]
+
 ghost use Rattle.std.specs.Prelude.{◌≡◌, cond, List, ◌∷◌, ℕ, ◌+◌, ◌<◌, ◌≤◌, length, get_or, drop, replicate};
 ghost use Rattle.token.specs.Regex.{to};
 ghost use Rattle.utf8.specs.Utf8.{tail, sequences, begins, width, ill_formed};
@@ -9,14 +11,14 @@ ghost use Rattle.utf8.specs.Passed.{Passed};
 const PART: usize = 256;
 
 // An offset that a search finds.
-#[derive(Drop)]
+#[derive(Clone, Copy)]
 pub enum Found {
     At(usize),
     Nowhere,
 }
 
 // What a first byte asks of those behind it: the lowest and the highest second byte, and how many tail bytes follow that.
-#[derive(Drop)]
+#[derive(Clone, Copy)]
 struct Lead(u8, u8, usize);
 
 // A byte from 128 on that starts no sequence has a range that no byte is in.

@@ -1,4 +1,6 @@
 // The print of functions, enum members and definitions: rico's writer/document.rs.
+#![tactic(auto)]
+
 ghost use Rattle.ast.specs.Records.{comment_width, node_width, room};
 ghost use Rattle.cursor.specs.Onto.{Writes};
 ghost use Rattle.write_definitions.specs.Onto.{throws_out, oneway_out, function_tail_out, function_out, member_out, one_out, members_from, body_out, extends_out, keyword_out, namespace_out, const_out, line_out, block_out, definition_out, document_out};

@@ -1,4 +1,6 @@
 // The print of types, values, annotations, fields and parameters: rico's writer/types.rs, values.rs and common.rs.
+#![tactic(auto)]
+
 ghost use Rattle.std.specs.Prelude.{◌≡◌, true};
 ghost use Rattle.ast.specs.Records.{comment_width, node_width, room};
 ghost use Rattle.cursor.specs.Onto.{Writes, token_out};
