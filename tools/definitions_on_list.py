@@ -1,5 +1,5 @@
 #!/usr/bin/env python3
-"""Computes the definitions of reading and printing on the texts of oracle/answers.list and holds them to the answers kept there.
+"""Computes the definitions of reading and printing on the texts of answers.list (oracle/README.md; the input of crates/replay_nodes) and holds them to the answers kept there.
 
 usage: tools/definitions_on_list.py [LONGEST [EVERY]]
 LONGEST: texts up to so many bytes (default 100); EVERY: each so-many-th of them (default 8), and the first of each refusal, kind, flags and form of a field.
@@ -28,7 +28,7 @@ ORACLE = "target/oracle/bin/oracle"
 FIELDS = "target/oracle/bin/oracle_fields"
 longest = int(sys.argv[1]) if len(sys.argv) > 1 else 100
 every = int(sys.argv[2]) if len(sys.argv) > 2 else 8
-data = open("oracle/answers.list", "rb").read()
+data = open("crates/replay_nodes/stdin", "rb").read()
 at = 0
 
 
