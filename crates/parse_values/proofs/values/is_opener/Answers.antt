@@ -7,8 +7,6 @@ pub returns-then-kind-eq-LEFT_BRACE : goal.returns-then-kind-eq-LEFT_BRACE
 unfolding is_opener
 returns-then-kind-eq-LEFT_BRACE c = rw (eq-eqb _ _ c.if-kind-eq-LEFT_BRACE.true)
 
-
 pub returns : goal.returns
 unfolding is_opener
 returns c = rw (ne_eqb _ _ c.if-kind-eq-LEFT_BRACE.false)
-
