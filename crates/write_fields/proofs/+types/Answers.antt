@@ -1,11 +1,8 @@
 -- `write_type` and the two functions that it writes containers with meet their contracts: each is its calls, one after another.
 -- The measure is twice the containers left, one more for those two.
-use mathlib.Core.Path.{refl, ◌∙◌}
-use native.Mathlib.Omega.{arith}
+use mathlib.Core.Path.{refl}
 use Rattle.cursor.proofs.Chain.{kept, last, yes, no}
 use Rattle.write_fields.proofs.Shapes.{container_is, map_type_is, type_is}
-use borrow.Author.Rules.{rules}
-use Prim.Native.Nat.{ℕ, ◌<◌, ◌*◌, ◌+◌}
 use Rattle.write_fields.proofs.+types.Goals as goal
 
 pub write_container-returns : goal.write_container-returns

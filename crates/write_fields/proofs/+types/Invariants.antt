@@ -1,11 +1,6 @@
 -- `write_type` and the two functions that it writes containers with meet their contracts: each is its calls, one after another.
 -- The measure is twice the containers left, one more for those two.
-use mathlib.Core.Path.{refl, ◌∙◌}
-use native.Mathlib.Omega.{arith}
-use Rattle.cursor.proofs.Chain.{kept, last, yes, no}
-use Rattle.write_fields.proofs.Shapes.{container_is, map_type_is, type_is}
-use borrow.Author.Rules.{rules}
-use Prim.Native.Nat.{ℕ, ◌<◌, ◌*◌, ◌+◌}
+use Prim.Native.Nat.{◌*◌, ◌+◌}
 use Rattle.write_fields.proofs.+types.Given as goal
 
 abbrev pub decreases-write_container : goal.decreases-write_container

@@ -4,12 +4,8 @@ use mathlib.Core.Path.{refl, ◌∙◌}
 use native.Mathlib.Omega.{arith}
 use Rattle.cursor.proofs.Chain.{kept, last, ends, yes, no, about}
 use Rattle.write_fields.proofs.Shapes.{property_is, list_is, map_is, value_is, value_token}
-use Rattle.write_fields.proofs.Rounds.{Going, starts, each_turn, each_over}
-use borrow.Author.Rules.{rules}
+use Rattle.write_fields.proofs.Rounds.{starts, each_turn, each_over}
 use Rattle.ast.specs.Records.{node_width, room}
-use mathlib.Core.Bool.{true}
-use Rattle.write_fields.specs.Onto.{each_out, property_out, value_out}
-use Prim.Native.Nat.{ℕ, ◌<◌, ◌*◌, ◌+◌}
 use Rattle.write_fields.proofs.+values.Goals as goal
 
 pub write_element-returns-then-kind_at-lt-LIST_VALUE : goal.write_element-returns-then-kind_at-lt-LIST_VALUE

@@ -1,15 +1,10 @@
 -- `write_value` and the six functions that it writes containers with meet their contracts: each is its calls, one after another.
 -- The measure is five times the containers left, and the place in the cycle. A loop's invariant: the whole is what the turns left write from here.
-use mathlib.Core.Path.{refl, ◌∙◌}
-use native.Mathlib.Omega.{arith}
-use Rattle.cursor.proofs.Chain.{kept, last, ends, yes, no, about}
-use Rattle.write_fields.proofs.Shapes.{property_is, list_is, map_is, value_is, value_token}
-use Rattle.write_fields.proofs.Rounds.{Going, starts, each_turn, each_over}
-use borrow.Author.Rules.{rules}
+use Rattle.write_fields.proofs.Rounds.{Going}
 use Rattle.ast.specs.Records.{node_width, room}
 use mathlib.Core.Bool.{true}
 use Rattle.write_fields.specs.Onto.{each_out, property_out, value_out}
-use Prim.Native.Nat.{ℕ, ◌<◌, ◌*◌, ◌+◌}
+use Prim.Native.Nat.{◌*◌, ◌+◌}
 use Rattle.write_fields.proofs.+values.Given as goal
 
 abbrev pub decreases-write_element : goal.decreases-write_element

@@ -1,19 +1,12 @@
 -- `write_fields::write_params` meets its contract.
-use mathlib.Core.Path.{ap, ◌∙◌}
-use borrow.Author.Tests.{not-true, not-false}
-use native.Mathlib.Omega.{arith}
-use Rattle.cursor.proofs.Chain.{kept, ends, yes, no, yes_by, no_by, about}
-use Rattle.write_fields.proofs.Rounds.{Going, starts, params_is, params_turn, params_over}
+use Rattle.write_fields.proofs.Rounds.{Going}
 use mathlib.Core.Bool.{true}
-use Rattle.write_fields.specs.Onto.{is_of, params_from}
-use borrow.Author.Rules.{rules}
+use Rattle.write_fields.specs.Onto.{params_from}
 use Rattle.ast.specs.Records.{comment_width, node_width, room}
 use Rattle.write_fields.proofs.write_params.Given as goal
 
 abbrev pub invariant-loop-left : goal.invariant-loop-left
 invariant-loop-left l = Going (params_from l.text l.nodes (room node_width l.nodes) l.comments (room comment_width l.comments) l.thrown true (room node_width l.nodes)) (params_from l.text l.nodes (room node_width l.nodes) l.comments (room comment_width l.comments) l.thrown l.first l.left) l.initial.now l.initial.out l.now l.out
 
-
 abbrev pub decreases-loop-left : goal.decreases-loop-left
 decreases-loop-left l = l.left
-
