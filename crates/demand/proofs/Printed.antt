@@ -16,8 +16,6 @@ use Rattle.lexer.specs.Location.{between, span_of, opening}
 use Rattle.lexer.specs.Cuts.{cuts}
 use Rattle.lexer.specs.Tokens.{tokens}
 use Rattle.lexer.specs.Check.{checked}
-use Rattle.utf8.specs.Found.{found}
-use Rattle.lexer.proofs.CheckLaws.{fine}
 use Rattle.ast.specs.Ast.{Definition}
 use Rattle.ast.specs.Lists.{maps, All, anil}
 use Rattle.ast.specs.Drop.{drop_params}

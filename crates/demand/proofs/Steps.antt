@@ -3,7 +3,7 @@
 --     gives_answers                  a call answers for the definitions of the file
 --     leaves_print                   an accepted printing leaves their print, any other call the file
 --     stays_calls                    so the file stays
-use mathlib.Core.Path.{◌≡◌, refl, sym, ap, ◌∙◌}
+use mathlib.Core.Path.{◌≡◌, refl, ap, ◌∙◌}
 use mathlib.Core.Bool.{Bool, true, false, cond, ◌||◌, false≢true}
 use mathlib.Core.List.{List, [], ◌∷◌}
 use Prim.Native.Nat.{ℕ}

@@ -29,7 +29,6 @@ use Rattle.lexer.specs.Cuts.{cut_at, cuts_from, cuts, unrecognized}
 use Rattle.lexer.specs.Location.{pair, ends_line, behind, pass, span_of, between, opening}
 use Rattle.lexer.specs.Tokens.{skipped, lexemes, tokens}
 use Rattle.lexer.specs.Check.{verdict, checked}
-use Rattle.lexer.specs.Limit.{limit}
 use Rattle.number.specs.Value as N
 use Rattle.ast.specs.Tree as A
 use Rattle.ast.specs.Records as R

@@ -3,14 +3,14 @@
 --     judged_accepted, judged_refused   by what the members gave
 --     refused_means     the reading refused the text
 --     accepted_means    the reading accepted it, and its members were numbered
-use mathlib.Core.Path.{◌≡◌, refl, sym, ap, ◌∙◌}
+use mathlib.Core.Path.{◌≡◌, sym, ap, ◌∙◌}
 use mathlib.Core.List.{List, [], ◌∷◌}
 use Prim.Native.Nat.{ℕ}
 use lib.ListN.{length, replicate, length-replicate}
 use lib.IntN.{ℤ, pos}
 use Rattle.lexer.specs.Outcome.{Outcome, accepted, refused}
 use Rattle.ast.specs.Ast.{Definition}
-use Rattle.ast.specs.Records.{node_rows, notes, cleared}
+use Rattle.ast.specs.Records.{node_rows, notes}
 use Rattle.ast.proofs.Counts.{cleared_same}
 use Rattle.parser.specs.declared.Answer.{Answer}
 use Rattle.parser.specs.declared.Answer.TheVariants as A

@@ -27,7 +27,7 @@ use Rattle.writer.specs.declared.Printed.{Printed}
 use Rattle.writer.specs.declared.Printed.TheVariants.{Accepted, Refused}
 use Rattle.writer.specs.Write as W
 use Rattle.writer.specs.Write.{Printing, said, told, bytes_written, outcome_at, print_of, printing}
-use Rattle.demand.specs.Calls.{has_read, has_printed, gives}
+use Rattle.demand.specs.Calls.{has_printed, gives}
 use Rattle.file.specs.Run.{Request, ask, requests_of, File, file_of, Memory, memory, call_of, kept_in, settled, after, runs}
 
 -- ---- so many of a slice, or as many as there are

@@ -17,7 +17,6 @@ use Rattle.utf8.specs.Found.{found}
 use Rattle.lexer.specs.Outcome.{Outcome, refused, numbers}
 use Rattle.lexer.specs.Cuts.{cuts, unrecognized}
 use Rattle.lexer.specs.Check.{verdict, checked, refusal}
-use Rattle.lexer.specs.Limit.{limit}
 use Rattle.lexer.specs.declared.Checked.{Checked}
 use Rattle.parser.specs.declared.Answer.{Answer}
 use Rattle.parser.specs.Read as R

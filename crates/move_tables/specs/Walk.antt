@@ -1,6 +1,6 @@
 -- How the code goes through a table: parents by number, a record's ancestors by their parents, and which records end where. The contracts within
 -- this crate cite it; those of `widen` and `narrow` do not.
-use Rattle.std.specs.Prelude.{◌≡◌, true, cond, List, [], ◌∷◌, ◌++◌, ℕ, zero, suc, ◌+◌, ◌*◌, ◌-◌, ◌<◌, ◌≤◌, eqb, ltb, length, take, get_or, set, replicate}
+use Rattle.std.specs.Prelude.{◌≡◌, true, cond, List, [], ◌∷◌, ℕ, zero, suc, ◌+◌, ◌*◌, ◌<◌, ◌≤◌, eqb, ltb, length, get_or, set}
 use Rattle.std.proofs.Math.Option.{Option, some, none}
 use Rattle.ast.specs.Column.{Parent, Past}
 use Rattle.ast.specs.Records.{node_width, no_parent}

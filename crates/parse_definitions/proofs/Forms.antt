@@ -8,7 +8,6 @@ use Rattle.ast.specs.Records.{no_parent}
 use Rattle.steps.specs.declared.state.State.{State}
 use Rattle.steps.specs.Into.{put_node, stop, M, Out, ◌⨟◌, advance_in, advanced, after, done, expect_in, node_in, opened, own_in, refused, skip_comments_in}
 use Rattle.parse_values.specs.Into.{type_in, value_in}
-use Rattle.parser.specs.Definitions.{nesting}
 use Rattle.parse_fields.specs.Into.{annotations_in, fields_in, name_in, token_in}
 use Rattle.parse_members.specs.Into.{enum_members_in, functions_in}
 use Rattle.parse_definitions.specs.Into.{begin_in, const_in, define_in, definition_in, enum_in, extends_in, include_in, namespace_in, own_record_in, scope_in, service_head_in, service_in, structure_in, typed_name_in, typedef_in}

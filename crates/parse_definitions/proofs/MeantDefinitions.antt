@@ -12,25 +12,7 @@ use Rattle.token.specs.declared.Token.{Token}
 use Rattle.token.specs.declared.Token.TheVariants as T
 use Rattle.lexer.specs.declared.location.LOC.{LOC}
 use Rattle.lexer.specs.Tokens.{Lexeme}
-use Rattle.ast.specs.Ast.{
-  Annotations,
-  Field,
-  EnumMember,
-  Function,
-  Structure,
-  Struct,
-  Union,
-  Exception,
-  Definition,
-  Include,
-  CppInclude,
-  Namespace,
-  Const,
-  Typedef,
-  Enum,
-  structure,
-  Service,
-}
+use Rattle.ast.specs.Ast.{Annotations, Field, EnumMember, Function, Structure, Struct, Union, Exception, Definition, Include, CppInclude, Enum, structure, Service}
 use Rattle.ast.specs.Tree.{
   Tree,
   node,
@@ -53,7 +35,6 @@ use Rattle.ast.specs.Tree.{
 use Rattle.ast.specs.Records.{no_parent}
 use Rattle.steps.specs.declared.state.State.{State}
 use Rattle.parser.specs.Steps.{kind, place, span, St, pos, Res, P, bind, test, peek, when, next, taken}
-use Rattle.parser.specs.Definitions as D
 use Rattle.parser.specs.Definitions.{
   parse_type,
   parse_value,

@@ -41,7 +41,7 @@ use Rattle.ast.specs.Tree.{
   field_tree,
 }
 use Rattle.steps.specs.declared.state.State.{State}
-use Rattle.parser.specs.Steps.{kind, bytes, place, span, St, Res, P, test, peek, when, next, want, separators}
+use Rattle.parser.specs.Steps.{kind, bytes, place, span, St, Res, P, test, peek, when, want, separators}
 use Rattle.parser.specs.Definitions.{
   is_id,
   one_separator,

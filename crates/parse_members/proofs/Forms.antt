@@ -7,7 +7,6 @@ use lib.Dec.{eqb}
 use Rattle.steps.specs.declared.state.State.{State}
 use Rattle.steps.specs.Into.{◌⨟◌, advanced, after, done, leaf_in, node_in, opened, own_in, skip_comments_in, sum}
 use Rattle.parse_values.specs.Into.{type_in}
-use Rattle.parser.specs.Definitions.{nesting}
 use Rattle.parse_fields.specs.Into.{annotations_in, fields_in, members_in, name_in, token_in}
 use Rattle.parse_members.specs.Into.{enum_members_in, flag_if, function_head_in, function_in, function_tail_in, functions_in, has_tail, initializer_in, member_in, return_type_in, skip_oneway, throws_in}
 

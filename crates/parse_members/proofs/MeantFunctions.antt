@@ -39,8 +39,7 @@ use Rattle.ast.specs.Tree.{
   function_tree,
 }
 use Rattle.steps.specs.declared.state.State.{State}
-use Rattle.parser.specs.Steps.{kind, place, span, St, pos, MissingTypeDeclaration, InvalidReturnType, test, peek, when, next, want}
-use Rattle.parser.specs.Definitions as D
+use Rattle.parser.specs.Steps.{kind, place, span, St, pos, MissingTypeDeclaration, InvalidReturnType, test, peek, when, want}
 use Rattle.parser.specs.Definitions.{
   parse_type,
   parse_field,

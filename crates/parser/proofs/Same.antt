@@ -30,7 +30,7 @@ use Rattle.ast.specs.Ast.{
 use Rattle.ast.specs.Move.{move_loc, move_l, moves, move_type, move_value, move_elements, move_properties, move_annotation, move_annotations, move_field, move_member, move_function, move_definition, move}
 use Rattle.ast.proofs.Forget.{gone, nowhere, bare_l}
 use Rattle.ast.specs.Lists.{maps, opt}
-use Rattle.parser.specs.Steps.{◌>>=◌, ◌>>◌, kind, bytes, place, span, St, pos, InvalidReturnType, Raised, raise, Res, ok, no, P, bind, test, peek, when, fail, needs, refuse, next, want, start, here, taken, Fate, stop, over, wait, by, pass, skip, skip_separator, skip_comments, skip_comments_discard, skip_trivia, closed, loop, many}
+use Rattle.parser.specs.Steps.{◌>>◌, kind, bytes, place, span, St, pos, InvalidReturnType, Raised, raise, Res, ok, no, P, bind, test, peek, when, fail, needs, refuse, next, want, start, here, taken, Fate, stop, over, wait, by, pass, skip, skip_separator, skip_comments, skip_comments_discard, skip_trivia, closed, loop, many}
 use Rattle.parser.specs.Types.{complex_type, map_type, container_type, type_by, field_type}
 use Rattle.parser.proofs.TypeStep.{type_step}
 use Rattle.parser.specs.Values.{

@@ -1,5 +1,4 @@
 -- What `type_by` does with a token ahead.
-use mathlib.Core.List.{List}
 use Rattle.token.specs.Code.{among}
 use Rattle.lexer.specs.Tokens.{Lexeme}
 use Rattle.lexer.specs.Error.{UnsupportedType}

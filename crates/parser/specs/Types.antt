@@ -1,5 +1,5 @@
 -- Types: rico's parser/types.rs.
-use Rattle.std.specs.Prelude.{Bool, List, [], ◌∷◌, ℕ, suc, zero}
+use Rattle.std.specs.Prelude.{List, [], ◌∷◌, ℕ, suc, zero}
 use Rattle.token.specs.Code.{is, among}
 use Rattle.token.specs.declared.Token.{Token}
 use Rattle.token.specs.declared.Token.TheVariants as T

@@ -15,7 +15,6 @@ use lib.Seq.{take-append_seam}
 use borrow.Author.Tests.{ltb-false, lt-ltb, le-ltb}
 use Rattle.lexer.specs.Outcome.{Outcome, accepted, refused}
 use Rattle.lexer.specs.Tokens.{Lexeme}
-use Rattle.lexer.specs.Limit.{limit}
 use Rattle.ast.specs.Lists.{All, anil, acons}
 use Rattle.ast.specs.Ast.{Definition}
 use Rattle.ast.specs.Tree.{Tree, node, Forest, bare, grown, each, definition_tree}
@@ -30,7 +29,7 @@ use Rattle.parser.proofs.Walk.{document_reads}
 use Rattle.parser.proofs.Taken.{taken_means}
 use Rattle.parser.proofs.Paid.{nodes_most, notes_most}
 use Rattle.writer.specs.Print.{bytes_of, pieces, printed}
-use Rattle.writer.specs.Write.{widest, outcome_at, fitted_out, answer, written, print_of, Printing, printing}
+use Rattle.writer.specs.Write.{outcome_at, fitted_out, answer, written, print_of, Printing, printing}
 use Rattle.cursor.specs.Onto.{Reached}
 use Rattle.printer.specs.Onto.{opening, refusing, fits, ended, used, writing, by_answer, by_reading, all}
 use Rattle.write_fields.proofs.Ahead.{Rows, under, unders, owned_before, noted, noteds, Ahead, Fits, Over, Got, got, Job, At}

@@ -15,8 +15,7 @@ use Rattle.parser.specs.Read.{Reading, reading, said, told as read_told}
 use Rattle.steps.specs.Into.{rest_at, wiped}
 use Rattle.steps.proofs.Cells.{wipe_all}
 use Rattle.lexer.specs.Outcome.{accepted, refused}
-use Rattle.lexer.specs.Limit.{limit}
-use Rattle.writer.specs.Write.{widest, Printing}
+use Rattle.writer.specs.Write.{Printing}
 use Rattle.cursor.specs.declared.Cursor.{Cursor}
 use Rattle.cursor.specs.Onto.{Reached, reached}
 use Rattle.write_definitions.specs.Onto.{document_out}

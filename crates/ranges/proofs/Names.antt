@@ -69,7 +69,7 @@ use Rattle.ast.specs.Tree.{
   structure_kind,
   definition_tree,
 }
-use Rattle.parser.specs.Steps.{kind, place}
+use Rattle.parser.specs.Steps.{place}
 use Rattle.parser.proofs.Each.{
   EachOption,
   enone,

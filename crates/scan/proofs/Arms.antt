@@ -15,7 +15,6 @@ use Rattle.token.specs.Tables.{classes, trie, tables}
 use Rattle.token.specs.Automaton.{openings, whole_byte, opened}
 use Rattle.token.specs.Run.{class_of}
 use Rattle.token.specs.WordNumber.{step, step_by, number_from, number, keyword_in, keyword, kind_in, kind_of}
-use Rattle.token.specs.declared.Token.{Token}
 use Rattle.token.specs.declared.Token.TheVariants as T
 use Rattle.token.specs.declared.Scan.{Scan}
 use Rattle.token.specs.declared.Scan.TheVariants.{Miss, Hit}

@@ -21,7 +21,7 @@ use Rattle.ast.specs.Records.{comment_width, node_width, node_row, size, sizes, 
 use Rattle.ast.proofs.Counts.{node_row_width, forest_wide, comments_wide, owned_wide, owned_count, append_all, note_counts, note_counts_law, rows_sizes}
 use Rattle.steps.specs.declared.packed.Range.{Range}
 use Rattle.steps.specs.declared.state.State.{State}
-use Rattle.parser.specs.Steps.{kind, place, span, St, pos, Raised, Res, ok, no, P, bind, test, next, when, peek, closed, loop, many}
+use Rattle.parser.specs.Steps.{place, span, St, pos, Raised, Res, ok, no, P, bind, test, next, when, peek, closed, loop, many}
 use Rattle.steps.specs.Packed.{unpacked, unpacked_loc}
 use Rattle.steps.specs.Into.{
   Out,

@@ -38,7 +38,6 @@ use Rattle.lexer.specs.Location.{pass, between, opening}
 use Rattle.lexer.specs.Tokens.{Lexeme, lexeme, skipped, lexemes, tokens}
 use Rattle.utf8.specs.Utf8.{WellFormed}
 use Rattle.lexer.specs.Check.{verdict, checked}
-use Rattle.lexer.specs.Limit.{limit}
 use Rattle.lexer.proofs.CutLaws.{cuts_nil, cuts_hit}
 use Rattle.utf8.proofs.Utf8Laws.{well_join, well_ascii, Ascii}
 use Rattle.writer.specs.Print.{Piece, bytes_of}

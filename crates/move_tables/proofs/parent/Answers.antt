@@ -6,4 +6,3 @@ use Rattle.move_tables.proofs.parent.Goals as goal
 pub returns : goal.returns
 unfolding parent_in
 returns c = search rules
-

@@ -1,6 +1,5 @@
 -- `number::hex` meets its contract.
 use mathlib.Core.Path.{◌∙◌}
-use borrow.Author.Rules.{rules}
 use Rattle.number.proofs.Bits.{hex_none, hex_some}
 use Rattle.number.proofs.hex.Goals as goal
 

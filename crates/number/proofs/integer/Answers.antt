@@ -1,6 +1,5 @@
 -- `number::integer` meets its contract.
 use mathlib.Core.Path.{◌∙◌}
-use borrow.Author.Rules.{rules}
 use Rattle.number.proofs.Bits.{integer_none, integer_minus, integer_plus, integer_plain}
 use Rattle.number.proofs.integer.Goals as goal
 

@@ -1,6 +1,5 @@
 -- `number::negative` meets its contract.
 use mathlib.Core.Path.{sym, ◌∙◌}
-use borrow.Author.Rules.{rules}
 use Rattle.number.proofs.Bits.{negative_out, negative_none, negative_small, negative_fits, negative_in}
 use Rattle.number.proofs.negative.Goals as goal
 

@@ -1,6 +1,5 @@
 -- `number::positive` meets its contract.
 use mathlib.Core.Path.{sym, ◌∙◌}
-use borrow.Author.Rules.{rules}
 use Rattle.number.proofs.Bits.{positive_out, positive_small, positive_in}
 use Rattle.number.proofs.positive.Goals as goal
 

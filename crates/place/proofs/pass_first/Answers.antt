@@ -3,7 +3,6 @@ use mathlib.Core.Path.{◌≡◌, sym, ap, ◌∙◌}
 use mathlib.Core.Bool.{false}
 use Prim.Native.Nat.{◌≤◌}
 use native.Mathlib.Omega.{arith}
-use borrow.Author.Rules.{rules}
 use lib.ListN.{length, take, drop}
 use lib.Seq.{length-take-le}
 use Rattle.token.specs.Code.{code, is}
@@ -32,10 +31,8 @@ returns-then-code-eq-NEWLINE c =
     let k = ap code (sym c.first-piece.ensures.0) ∙ sym c.code.ensures ∙ c.if-code-eq-NEWLINE.true in
     c.behind.ensures ∙ rw c.ends_line.ensures (sym (step_line c.args.text.now c.args.most c.args.from c.requires.1 (omega (arith, c.requires.1, c.requires.2)) k))
 
-
 pub slice_bounds-pass_lexeme-end : goal.slice_bounds-pass_lexeme-end
 slice_bounds-pass_lexeme-end c = sym (long (goal.at.slice_bounds-pass_lexeme-end c).Else-code-eq-NEWLINE)
-
 
 pub pass_lexeme-requires : goal.pass_lexeme-requires
 pass_lexeme-requires c =

@@ -2,7 +2,6 @@
 use mathlib.Core.Path.{◌≡◌, sym, ap, ◌∙◌, subst}
 use Prim.Native.Nat.{ℕ, ◌≤◌, ◌<◌, ◌-◌, ◌+◌}
 use native.Mathlib.Omega.{arith}
-use borrow.Author.Rules.{rules}
 use mathlib.Core.List.{List}
 use lib.ListN.{length, take, drop, length-drop}
 use lib.Seq.{drop-drop, length-take-le}
@@ -68,12 +67,10 @@ pub loop-from-init : goal.loop-from-init
 unfolding opening
 loop-from-init c = rw c.new-from.ensures (opening_placed, omega arith, start _ _)
 
-
 pub pass_first-from-requires : goal.pass_first-from-requires
 pass_first-from-requires c =
     let at = c.loop-from.from.at in
     (c.requires.0, omega (arith, c.if-place-at.false), rw (part c.args.text.now at) (omega (arith, length-drop at c.args.text.now, c.requires.1)), c.loop-from.invariant.0, omega (arith, c.loop-from.invariant.1, c.requires.2))
-
 
 pub returns-then-place-at : goal.returns-then-place-at
 returns-then-place-at c =
@@ -81,16 +78,13 @@ returns-then-place-at c =
     let z : c.args.place - s.at ≡ 0 = omega (arith, c.if-place-at.true) in
     c.span.ensures ∙ ap span_of (sym (c.loop-from.invariant.2 ∙ rw z (walk_none _ _ _ s)))
 
-
 pub loop-from-smaller : goal.loop-from-smaller
 loop-from-smaller c =
     let f = goes_further c.args.text.now c.args.place c.loop-from.from c.if-place-at.false c.requires.1 c.pass_first-from.result c.pass_first-from.ensures in
     omega (arith, f.0, c.if-place-at.false)
-
 
 pub loop-from-preserved : goal.loop-from-preserved
 loop-from-preserved c =
     let i = c.loop-from.invariant in
     let f = goes_on c.args.text.now c.args.place c.loop-from.from c.if-place-at.false c.requires.1 c.pass_first-from.result c.pass_first-from.ensures i.0 c.requires.2 in
     (f.0, f.1, i.2 ∙ f.2)
-

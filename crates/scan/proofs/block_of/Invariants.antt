@@ -1,19 +1,12 @@
 -- `scan::block_of` meets its contract. The invariant: the scan stands within the comment.
-use mathlib.Core.Path.{sym, ◌∙◌}
 use Prim.Native.Nat.{◌-◌}
-use native.Mathlib.Omega.{arith}
-use borrow.Author.Rules.{rules}
 use lib.ListN.{length}
 use Rattle.token.specs.declared.Scan.TheVariants.{Miss}
 use Rattle.token.specs.Automaton.{State, Reached}
-use Rattle.scan.proofs.UntilLaws.{star_next}
-use Rattle.scan.proofs.ScanLaws.{block_end, star_end, star_close, star_on}
 use Rattle.scan.proofs.block_of.Given as goal
 
 abbrev pub invariant-loop-i : goal.invariant-loop-i
 invariant-loop-i l = Reached l.text State.block l.i Miss
 
-
 abbrev pub decreases-loop-i : goal.decreases-loop-i
 decreases-loop-i l = length l.text - l.i
-

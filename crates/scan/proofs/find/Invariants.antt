@@ -1,17 +1,12 @@
 -- `scan::find` meets its contract. The invariant: what is sought from `at` on stands where it stands from `i` on.
-use mathlib.Core.Path.{◌≡◌, refl, sym, ◌∙◌}
+use mathlib.Core.Path.{◌≡◌}
 use Prim.Native.Nat.{◌≤◌, ◌-◌, ◌+◌}
-use native.Mathlib.Omega.{arith}
-use borrow.Author.Rules.{rules}
 use lib.ListN.{length, drop}
 use Rattle.scan.specs.Until.{until}
-use Rattle.scan.proofs.UntilLaws.{until_here, until_on, until_all}
 use Rattle.scan.proofs.find.Given as goal
 
 abbrev pub invariant-loop-i : goal.invariant-loop-i
 invariant-loop-i l = (l.i ≤ length l.text) × (l.at + until l.byte (drop l.at l.text) ≡ l.i + until l.byte (drop l.i l.text))
 
-
 abbrev pub decreases-loop-i : goal.decreases-loop-i
 decreases-loop-i l = length l.text - l.i
-

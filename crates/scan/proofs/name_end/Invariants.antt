@@ -1,21 +1,14 @@
 -- `scan::name_end` meets its contract. The invariant: the scan stands at the end of a piece of the identifier.
-use borrow.Author.Rules.{rules}
-use mathlib.Core.Path.{sym, ◌∙◌}
 use Prim.Native.Nat.{◌≤◌, ◌<◌, ◌-◌}
-use native.Mathlib.Omega.{arith}
 use lib.ListN.{length, get_or}
 use Rattle.token.specs.declared.Token.TheVariants as T
 use Rattle.token.specs.declared.Scan.TheVariants.{Hit}
 use Rattle.token.specs.Run.{class_of}
 use Rattle.token.specs.Automaton.{State, Reached}
-use Rattle.token.proofs.Reach.{reach_end}
-use Rattle.scan.proofs.ScanLaws.{name_run, name_sign, name_stop, dot_end, dot_digit, dot_sign, dot_on}
 use Rattle.scan.proofs.name_end.Given as goal
 
 abbrev pub invariant-loop-i : goal.invariant-loop-i
 invariant-loop-i l = Reached l.text State.named l.i (Hit T.Identifier l.i) × (l.at ≤ l.i) × (l.i < length l.text → 36 ≤ class_of (get_or l.text l.i 0))
 
-
 abbrev pub decreases-loop-i : goal.decreases-loop-i
 decreases-loop-i l = length l.text - l.i
-

@@ -1,18 +1,12 @@
 -- `scan::run` meets its contract. The invariant: the run from `at` on ends where the run from `i` on does.
-use mathlib.Core.Path.{◌≡◌, refl, sym, ◌∙◌}
-use mathlib.Core.Logic.{⊎_elim}
+use mathlib.Core.Path.{◌≡◌}
 use Prim.Native.Nat.{◌≤◌, ◌-◌, ◌+◌}
-use native.Mathlib.Omega.{arith}
-use borrow.Author.Rules.{rules}
 use lib.ListN.{length, drop}
 use Rattle.token.specs.Run.{before}
-use Rattle.scan.proofs.RunLaws.{run_here, run_below, run_above, run_all}
 use Rattle.scan.proofs.run.Given as goal
 
 abbrev pub invariant-loop-i : goal.invariant-loop-i
 invariant-loop-i l = (l.i ≤ length l.text) × (l.at + before l.from l.to (drop l.at l.text) ≡ l.i + before l.from l.to (drop l.i l.text))
 
-
 abbrev pub decreases-loop-i : goal.decreases-loop-i
 decreases-loop-i l = length l.text - l.i
-

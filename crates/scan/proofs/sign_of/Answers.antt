@@ -13,33 +13,25 @@ use Rattle.scan.proofs.sign_of.Goals as goal
 pub returns-then-k-eq-BLANK : goal.returns-then-k-eq-BLANK
 returns-then-k-eq-BLANK c = ap (Hit T.Blank) c.run.ensures ∙ sym (first_blank c.requires.4 c.requires.1 (sym c.requires.2 ∙ c.if-k-eq-BLANK.true))
 
-
 pub string_of-requires : goal.string_of-requires
 string_of-requires c = (c.requires.0, first_quote c.requires.4 c.requires.1 true (sym c.requires.2 ∙ c.if-k-eq-DOUBLE_QUOTE.true))
 
-
 pub string_of-requires-then-k-eq-SINGLE_QUOTE : goal.string_of-requires-then-k-eq-SINGLE_QUOTE
 string_of-requires-then-k-eq-SINGLE_QUOTE c = (c.requires.0, first_quote c.requires.4 c.requires.1 false (sym c.requires.2 ∙ c.if-k-eq-SINGLE_QUOTE.true))
-
 
 pub returns-then-k-eq-HASH : goal.returns-then-k-eq-HASH
 returns-then-k-eq-HASH c =
     let r = first_hash c.requires.4 c.requires.1 (sym c.requires.2 ∙ c.if-k-eq-HASH.true) in
     ap (Hit T.LineComment) (c.find.ensures ∙ line_end r) ∙ sym (comment_done r)
 
-
 pub slash_of-requires : goal.slash_of-requires
 slash_of-requires c = (c.requires.0, first_slash c.requires.4 c.requires.1 (sym c.requires.2 ∙ c.if-k-eq-SLASH.true))
-
 
 pub signed_of-requires : goal.signed_of-requires
 signed_of-requires c = (c.requires.0, first_sign c.requires.4 c.requires.1 (sym c.requires.2 ∙ c.if-k-eq-SIGN.true))
 
-
 pub dot_of-requires : goal.dot_of-requires
 dot_of-requires c = (c.requires.0, first_dot c.requires.4 c.requires.1 (sym c.requires.2 ∙ c.if-k-eq-DOT.true))
 
-
 pub returns : goal.returns
 returns c = c.mark_of.ensures ∙ sym (mark_done c.requires.4 c.requires.1 c.args.k c.requires.2 c.requires.3 (search rules) (rw (ne_eqb _ _ c.if-k-eq-BLANK.false, ne_eqb _ _ c.if-k-eq-DOUBLE_QUOTE.false, ne_eqb _ _ c.if-k-eq-SINGLE_QUOTE.false, ne_eqb _ _ c.if-k-eq-HASH.false, ne_eqb _ _ c.if-k-eq-SLASH.false, ne_eqb _ _ c.if-k-eq-SIGN.false, ne_eqb _ _ c.if-k-eq-DOT.false)))
-

@@ -1,18 +1,12 @@
 -- `scan::string_of` meets its contract. The invariant: the scan stands within the string.
-use borrow.Author.Rules.{rules}
-use mathlib.Core.Path.{sym, ◌∙◌}
 use Prim.Native.Nat.{◌-◌}
-use native.Mathlib.Omega.{arith}
 use lib.ListN.{length}
 use Rattle.token.specs.declared.Scan.TheVariants.{Miss}
 use Rattle.token.specs.Automaton.{State, Reached}
-use Rattle.scan.proofs.ScanLaws.{string_end, string_close, escape_end, escape_line, escape_on, run_on, stop_below}
 use Rattle.scan.proofs.string_of.Given as goal
 
 abbrev pub invariant-loop-double : goal.invariant-loop-double
 invariant-loop-double l = Reached l.text (State.in_string l.double) l.i Miss
 
-
 abbrev pub decreases-loop-double : goal.decreases-loop-double
 decreases-loop-double l = length l.text - l.i
-

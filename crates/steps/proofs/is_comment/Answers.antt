@@ -7,8 +7,6 @@ pub returns-then-kind-eq-LINE_COMMENT : goal.returns-then-kind-eq-LINE_COMMENT
 unfolding is_comment
 returns-then-kind-eq-LINE_COMMENT c = rw (eq-eqb _ _ c.if-kind-eq-LINE_COMMENT.true)
 
-
 pub returns : goal.returns
 unfolding is_comment
 returns c = rw (ne_eqb _ _ c.if-kind-eq-LINE_COMMENT.false)
-

@@ -7,8 +7,6 @@ pub returns-then-kind-eq-COMMA : goal.returns-then-kind-eq-COMMA
 unfolding is_separator
 returns-then-kind-eq-COMMA c = rw (eq-eqb _ _ c.if-kind-eq-COMMA.true)
 
-
 pub returns : goal.returns
 unfolding is_separator
 returns c = rw (ne_eqb _ _ c.if-kind-eq-COMMA.false)
-

@@ -1,11 +1,8 @@
 -- `steps::look` meets its contract.
 use mathlib.Core.Path.{◌≡◌, refl, sym, ap, ◌∙◌}
 use mathlib.Core.List.{List}
-use mathlib.Core.Logic.{◌⊎◌, ⊎_elim}
 use Prim.Native.Nat.{ℕ, ◌<◌, ◌≤◌}
 use native.Mathlib.Omega.{arith}
-use denote.Enum.Declared.{tag_of}
-use borrow.Author.Rules.{rules}
 use borrow.Author.Tests.{lt-ltb, le-ltb}
 use lib.ListN.{length}
 use Rattle.lexer.specs.declared.location.Next.{Next}
@@ -56,17 +53,14 @@ none (N.Unrecognized p) e h = refl
 pub returns-then-from-gt-LIMIT : goal.returns-then-from-gt-LIMIT
 returns-then-from-gt-LIMIT c = far _ _ _ c.requires.short c.lexer_at-from.ensures c.if-from-gt-LIMIT.true
 
-
 pub returns-then-from : goal.returns-then-from
 returns-then-from c =
     astray _ _ _ c.requires.short c.lexer_at-from.ensures c.if-from-gt-LIMIT.false c.if-from.true
-
 
 pub next_token-next-requires : goal.next_token-next-requires
 next_token-next-requires c =
     let p = c.requires in
     (p.tabled, p.short, stands _ c.lexer_at-from.ensures c.if-from-gt-LIMIT.false c.if-from.false)
-
 
 pub pack-requires : goal.pack-requires
 pack-requires c =
@@ -74,13 +68,11 @@ pack-requires c =
     start_small _ _ _ _ (stands _ c.lexer_at-from.ensures c.if-from-gt-LIMIT.false c.if-from.false) p.short
     (sym c.next_token-next.ensures ∙ c.in-On.is)
 
-
 pub pack-requires-in-On : goal.pack-requires-in-On
 pack-requires-in-On c =
     let p = c.requires in
     end_small _ _ _ _ (stands _ c.lexer_at-from.ensures c.if-from-gt-LIMIT.false c.if-from.false) p.short
     (sym c.next_token-next.ensures ∙ c.in-On.is)
-
 
 pub returns-in-On : goal.returns-in-On
 unfolding found
@@ -89,9 +81,7 @@ returns-in-On c =
     (ap (found _) (sym (sym c.next_token-next.ensures ∙ c.in-On.is))
     ∙ looks _ _ _ c.requires.short c.lexer_at-from.ensures c.if-from-gt-LIMIT.false c.if-from.false)
 
-
 pub returns-in_default : goal.returns-in_default
 returns-in_default c =
     none _ _ c.in_default.not-On ∙ ap (found _) c.next_token-next.ensures
     ∙ looks _ _ _ c.requires.short c.lexer_at-from.ensures c.if-from-gt-LIMIT.false c.if-from.false
-

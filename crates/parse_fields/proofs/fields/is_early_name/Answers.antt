@@ -7,18 +7,14 @@ pub returns-then-kind-eq-NAMESPACE : goal.returns-then-kind-eq-NAMESPACE
 unfolding is_early_name
 returns-then-kind-eq-NAMESPACE c = rw (eq-eqb _ _ c.if-kind-eq-NAMESPACE.true)
 
-
 pub returns-then-kind-eq-INCLUDE : goal.returns-then-kind-eq-INCLUDE
 unfolding is_early_name
 returns-then-kind-eq-INCLUDE c = rw (ne_eqb _ _ c.if-kind-eq-NAMESPACE.false, eq-eqb _ _ c.if-kind-eq-INCLUDE.true)
-
 
 pub returns-then-kind-eq-ENUM : goal.returns-then-kind-eq-ENUM
 unfolding is_early_name
 returns-then-kind-eq-ENUM c = rw (ne_eqb _ _ c.if-kind-eq-NAMESPACE.false, ne_eqb _ _ c.if-kind-eq-INCLUDE.false, eq-eqb _ _ c.if-kind-eq-ENUM.true)
 
-
 pub returns : goal.returns
 unfolding is_early_name
 returns c = rw (ne_eqb _ _ c.if-kind-eq-NAMESPACE.false, ne_eqb _ _ c.if-kind-eq-INCLUDE.false, ne_eqb _ _ c.if-kind-eq-ENUM.false)
-

@@ -7,13 +7,10 @@ pub returns-then-kind-eq-REQUIRED : goal.returns-then-kind-eq-REQUIRED
 unfolding required_of
 returns-then-kind-eq-REQUIRED c = rw (eq-eqb _ _ c.if-kind-eq-REQUIRED.true)
 
-
 pub returns-then-kind-eq-OPTIONAL : goal.returns-then-kind-eq-OPTIONAL
 unfolding required_of
 returns-then-kind-eq-OPTIONAL c = rw (ne_eqb _ _ c.if-kind-eq-REQUIRED.false, eq-eqb _ _ c.if-kind-eq-OPTIONAL.true)
 
-
 pub returns-else-kind-eq-OPTIONAL : goal.returns-else-kind-eq-OPTIONAL
 unfolding required_of
 returns-else-kind-eq-OPTIONAL c = rw (ne_eqb _ _ c.if-kind-eq-REQUIRED.false, ne_eqb _ _ c.if-kind-eq-OPTIONAL.false)
-

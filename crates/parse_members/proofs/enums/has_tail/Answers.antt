@@ -7,8 +7,6 @@ pub returns-then-kind-eq-EQUALS : goal.returns-then-kind-eq-EQUALS
 unfolding has_tail
 returns-then-kind-eq-EQUALS c = rw (eq-eqb _ _ c.if-kind-eq-EQUALS.true)
 
-
 pub returns : goal.returns
 unfolding has_tail
 returns c = rw (ne_eqb _ _ c.if-kind-eq-EQUALS.false)
-

@@ -7,8 +7,6 @@ pub returns-then-ahead-kind : goal.returns-then-ahead-kind
 unfolding flag_if
 returns-then-ahead-kind c = rw (eq-eqb _ _ c.if-ahead-kind.true)
 
-
 pub returns-else-ahead-kind : goal.returns-else-ahead-kind
 unfolding flag_if
 returns-else-ahead-kind c = rw (ne_eqb _ _ c.if-ahead-kind.false)
-

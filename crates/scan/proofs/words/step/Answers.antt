@@ -18,27 +18,20 @@ small t n e h = rw e (lent_small n h)
 pub overflow_cast-next-2 : goal.overflow_cast-next-2
 overflow_cast-next-2 c = omega (arith, small _ c.args.number c.requires.0 (search rules))
 
-
 pub overflow_add-next-2 : goal.overflow_add-next-2
 overflow_add-next-2 c = omega (arith, small _ c.args.number c.requires.0 (search rules))
-
 
 pub overflow_add-next-3 : goal.overflow_add-next-3
 overflow_add-next-3 c = omega (arith, small _ c.args.number c.requires.0 (search rules))
 
-
 pub bounds-lut-next : goal.bounds-lut-next
 bounds-lut-next c = omega (arith, small _ c.args.number c.requires.0 (search rules))
-
 
 pub overflow_cast-result : goal.overflow_cast-result
 overflow_cast-result c = omega (arith, small _ c.args.number c.requires.0 (search rules))
 
-
 pub returns-then-lut-next : goal.returns-then-lut-next
 returns-then-lut-next c = sym (lent_step _ _ ∙ rw (← c.requires.0, eq-eqb _ _ c.if-lut-next.true))
 
-
 pub returns-else-lut-next : goal.returns-else-lut-next
 returns-else-lut-next c = sym (lent_step _ _ ∙ rw (← c.requires.0, ne_eqb _ _ c.if-lut-next.false))
-

@@ -7,8 +7,6 @@ pub returns-then-self-eq-NONE : goal.returns-then-self-eq-NONE
 unfolding shows refuse_in refused
 returns-then-self-eq-NONE c = λ t u. rw (eq-eqb _ _ c.if-self-eq-NONE.true)
 
-
 pub returns : goal.returns
 unfolding shows refuse_in refused
 returns c = λ t u. rw (ne_eqb _ _ c.if-self-eq-NONE.false)
-

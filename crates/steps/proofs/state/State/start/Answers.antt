@@ -7,8 +7,6 @@ pub returns-then-self-eq-NONE : goal.returns-then-self-eq-NONE
 unfolding start_at
 returns-then-self-eq-NONE c = rw (eq-eqb _ _ c.if-self-eq-NONE.true)
 
-
 pub returns-else-self-eq-NONE : goal.returns-else-self-eq-NONE
 unfolding start_at
 returns-else-self-eq-NONE c = rw (ne_eqb _ _ c.if-self-eq-NONE.false)
-
