@@ -44,12 +44,7 @@ fn write_table(out: Stdout, table: &[u32]) -> io::Result<()> {
 }
 
 // Reads a text with tables of so many numbers.
-fn try_tables(
-    out: Stdout,
-    text: &[u8],
-    nodes: &mut [u32],
-    comments: &mut [u32],
-) -> io::Result<()> {
+fn try_tables(out: Stdout, text: &[u8], nodes: &mut [u32], comments: &mut [u32]) -> io::Result<()> {
     write_answer(out, reader::read(text, nodes, comments))?;
     write_table(out, nodes)?;
     write_table(out, comments)?;

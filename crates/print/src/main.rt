@@ -99,7 +99,10 @@ fn write_print(rt: &HostRuntime, out: &[u8], bytes: usize) -> io::Result<()> {
         return Ok(());
     }
     if rt.stdout().write_all(&out[..bytes]).is_err() {
-        return say(rt.stderr(), b"print: standard output didn't take the whole print\n");
+        return say(
+            rt.stderr(),
+            b"print: standard output didn't take the whole print\n",
+        );
     }
     Ok(())
 }
@@ -118,16 +121,12 @@ fn print_with(
             nodes: _,
             comments: _,
             bytes,
-        } => {
-            write_print(rt, out, bytes)
-        }
+        } => { write_print(rt, out, bytes) }
         Printed::Refused {
             number,
             place,
             length: _,
-        } => {
-            refusal::write(rt.stderr(), number, place::find(text, place))
-        }
+        } => { refusal::write(rt.stderr(), number, place::find(text, place)) }
     }
 }
 
@@ -142,11 +141,17 @@ fn print_input(rt: &HostRuntime, indent: u32) -> io::Result<()> {
     let mut text: [u8; TEXT] = [0; TEXT];
     let input = rt.stdin();
     let Ok(n) = input::read_full(input, &mut text) else {
-        return say(rt.stderr(), b"print: standard input can't be read to its end\n");
+        return say(
+            rt.stderr(),
+            b"print: standard input can't be read to its end\n",
+        );
     };
     if n < TEXT {
         if !is_at_end(input) {
-            return say(rt.stderr(), b"print: standard input can't be read to its end\n");
+            return say(
+                rt.stderr(),
+                b"print: standard input can't be read to its end\n",
+            );
         }
     }
     print_text(rt, &text[..n], indent)

@@ -16,7 +16,10 @@ fn explain(err: Stderr, number: u32) -> io::Result<()> {
             b"only blanks are left behind this token, and more has to follow",
         ),
         error::UNEXPECTED_TOKEN => say(err, b"this token can't stand here"),
-        error::UNEXPECTED_EOF => say(err, b"the text ends with this token, and more has to follow"),
+        error::UNEXPECTED_EOF => say(
+            err,
+            b"the text ends with this token, and more has to follow",
+        ),
         error::UNSUPPORTED_TYPE => say(err, b"a type has to stand here"),
         error::INVALID_VALUE_DECLARATION => say(
             err,
@@ -26,7 +29,10 @@ fn explain(err: Stderr, number: u32) -> io::Result<()> {
             err,
             b"a field's name has to stand here; a field starts with its number, as in `1: i32 a`",
         ),
-        error::INVALID_FIELD_ID => say(err, b"a field's number goes from 0 to 18446744073709551615"),
+        error::INVALID_FIELD_ID => say(
+            err,
+            b"a field's number goes from 0 to 18446744073709551615",
+        ),
         error::MISSING_NAMESPACE_IDENTIFIER => say(err, b"the namespace's name has to stand here"),
         error::MISSING_NAMESPACE_SCOPE => say(
             err,
@@ -51,15 +57,24 @@ fn explain(err: Stderr, number: u32) -> io::Result<()> {
         ),
         error::TEXT_TOO_LONG => say(err, b"the text has more than 65536 bytes; split it"),
         error::NOT_UTF8 => say(err, b"this isn't UTF-8; save the text as UTF-8"),
-        error::NO_TOKEN => say(err, b"no token starts here; perhaps a string or a comment isn't closed"),
+        error::NO_TOKEN => say(
+            err,
+            b"no token starts here; perhaps a string or a comment isn't closed",
+        ),
         error::TOO_DEEP => say(err, b"32 containers stand around this one; no more can"),
-        error::NODES_FULL => say(err, b"the text has more nodes than this program holds; split it"),
+        error::NODES_FULL => say(
+            err,
+            b"the text has more nodes than this program holds; split it",
+        ),
         error::COMMENTS_FULL => say(
             err,
             b"the text has more comments than this program holds; split it",
         ),
         error::INDENT_TOO_WIDE => say(err, b"the indent is over 8; give 0 to 8"),
-        error::OUTPUT_FULL => say(err, b"the print is longer than this program holds; split the text"),
+        error::OUTPUT_FULL => say(
+            err,
+            b"the print is longer than this program holds; split the text",
+        ),
         _ => say(err, b"document 01 doesn't have this number"),
     }
 }

@@ -526,12 +526,7 @@ fn compare_text(text: &[u8], number: u32, tally: Tally) -> Tally {
 }
 
 // Makes the calls of the next text of the list.
-fn compare_next(
-    input: Stdin,
-    space: &mut [u8],
-    number: u32,
-    tally: Tally,
-) -> io::Result<Tally> {
+fn compare_next(input: Stdin, space: &mut [u8], number: u32, tally: Tally) -> io::Result<Tally> {
     let length = replay::read_part(input, space)?;
     pass_answer(input)?;
     Ok(compare_text(&space[..length], number, tally))

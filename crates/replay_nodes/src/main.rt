@@ -131,7 +131,13 @@ fn same_reading(
     let node_numbers = node_count as usize * ast::NODE_WIDTH;
     let comment_numbers = comment_count as usize * ast::COMMENT_WIDTH;
     let node_records = same_records(input, nodes, ast::NODE_WIDTH, node_numbers, paired)?;
-    let comment_records = same_records(input, comments, ast::COMMENT_WIDTH, comment_numbers, paired)?;
+    let comment_records = same_records(
+        input,
+        comments,
+        ast::COMMENT_WIDTH,
+        comment_numbers,
+        paired,
+    )?;
     replay::pass_part(input)?;
     replay::pass_part(input)?;
     replay::pass_part(input)?;
