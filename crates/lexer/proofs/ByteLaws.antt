@@ -28,7 +28,6 @@ use Rattle.token.proofs.Classes.{classes_length, class_below}
 use Rattle.token.proofs.Pattern.{newline_class}
 use Rattle.scan.proofs.FirstByte.{mark_at, line_at}
 use Rattle.lexer.specs.declared.location.Lexer.{Lexer}
-use Rattle.lexer.specs.declared.location.Next.TheVariants as N
 use Rattle.lexer.specs.Location.{behind, ends_line, pass}
 use Rattle.lexer.specs.Tokens.{skipped, next}
 use Rattle.lexer.specs.Marked.{marked}

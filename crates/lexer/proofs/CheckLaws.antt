@@ -16,7 +16,6 @@ use Rattle.utf8.proofs.FoundLaws.{found_at, found_none}
 use Rattle.utf8.specs.Utf8.{ill_formed}
 use Rattle.lexer.specs.Cuts.{cuts, unrecognized}
 use Rattle.lexer.specs.Check.{verdict, checked, refusal}
-use Rattle.lexer.specs.Limit.{limit}
 
 module _ (t : List ℕ) where
   pub too_long : 65536 < length t → checked t ≡ refused 20 0 0

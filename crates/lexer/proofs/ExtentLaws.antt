@@ -4,9 +4,9 @@
 --     extent_mark     one byte of a mark or of blanks
 use mathlib.Core.Path.{◌≡◌, refl, sym, ap, ◌∙◌}
 use mathlib.Core.Bool.{Bool, true, false, cond}
-use mathlib.Core.Logic.{◌⊎◌, ⊎_elim}
-use mathlib.Core.List.{List, [], ◌∷◌}
-use Prim.Native.Nat.{ℕ, suc, ◌+◌, ◌-◌, ◌<◌, ◌≤◌}
+use mathlib.Core.Logic.{⊎_elim}
+use mathlib.Core.List.{List}
+use Prim.Native.Nat.{ℕ, suc, ◌+◌, ◌<◌, ◌≤◌}
 use native.Mathlib.Omega.{arith}
 use native.Mathlib.Numerals.{add-one}
 use borrow.Author.Tests.{le-ltb, lt-ltb, le-leb, lt-leb}
@@ -25,7 +25,6 @@ use Rattle.token.proofs.Every.{every, at}
 use Rattle.token.proofs.Numbers.{lt_or_le, eq_or_ne}
 use Rattle.token.proofs.Classes.{classes_length, class_below}
 use Rattle.scan.proofs.FirstByte.{mark_at, blank_at}
-use Rattle.lexer.specs.Cuts.{cuts, unrecognized}
 use Rattle.lexer.specs.Extent.{Extent}
 use Rattle.lexer.proofs.CutLaws.{hit_fits, unrecognized_hit}
 

@@ -68,6 +68,7 @@ use Rattle.parser.specs.Steps.{
   many,
 }
 use Rattle.parser.specs.Types.{leaf_types, container_types, complex_type, map_type, container_type, type_by, field_type}
+use Rattle.parser.proofs.TypeStep.{type_step}
 use Rattle.parser.specs.Values.{
   leaf_values,
   openers,
@@ -267,7 +268,7 @@ module _ (d : ℕ) (p : Lexeme → P FieldType)
 
   type_by_sound : (ts : List Lexeme) → Sound (TypeIn d ts) c (type_by p (pos l c ts))
   unfolding type_by
-  type_by_sound ts = needs_sound 5 _ (pos l c ts) (bind_sound _ (next_sound l c ts) (started_type ts))
+  type_by_sound ts = needs_sound 5 (type_step p) (pos l c ts) (bind_sound _ (next_sound l c ts) (started_type ts))
 
 type_sound : (d : ℕ) (l : LOC) (c ts : List Lexeme) → Sound (TypeIn d ts) c (field_type d (pos l c ts))
 unfolding field_type
@@ -298,9 +299,9 @@ read_type : {d : ℕ} {ts : List Lexeme} {t : FieldType} {e : LOC} {r : List Lex
 unfolding field_type type_by container_type complex_type map_type bind test next want when peek here kind place among is code
 read_type {d} DerivesType.identifier WithinType.common l c = read_common d l c _ _ refl
 read_type {d} (DerivesType.base h) WithinType.common l c = read_common d l c _ _ (base_leaf h)
-read_type (DerivesType.list {l1 = l1} h) (WithinType.list g) l c = rw (read_type h g l1 c)
-read_type (DerivesType.set {l1 = l1} h) (WithinType.set g) l c = rw (read_type h g l1 c)
-read_type (DerivesType.map {l1 = l1} {l2 = l2} h i) (WithinType.map g j) l c = rw (read_type h g l1 c, read_type i j l2 c)
+read_type (DerivesType.list {l1 = l1} h) (WithinType.list {d = d} g) l c = rw (read_type {d = d} h g l1 c)
+read_type (DerivesType.set {l1 = l1} h) (WithinType.set {d = d} g) l c = rw (read_type {d = d} h g l1 c)
+read_type (DerivesType.map {l1 = l1} {l2 = l2} h i) (WithinType.map {d = d} g j) l c = rw (read_type {d = d} h g l1 c, read_type {d = d} i j l2 c)
 
 -- ---- what is skipped is a gap
 

@@ -1,4 +1,5 @@
 pub mod Cases
+pub mod TypeStep
 pub mod Loops
 pub mod Same
 pub mod Wf

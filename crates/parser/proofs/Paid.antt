@@ -130,6 +130,7 @@ use Rattle.parser.specs.Steps.{
   many,
 }
 use Rattle.parser.specs.Types.{complex_type, map_type, container_type, type_by, field_type}
+use Rattle.parser.proofs.TypeStep.{type_step}
 use Rattle.parser.specs.Values.{
   values_end,
   Property,
@@ -583,7 +584,7 @@ module _ (p : P FieldType) (hp : (s : St) → PaysTree type_tree s (p s)) where
 type_by_p : (p : Lexeme → P FieldType) → ((t : Lexeme) (s : St) → PaysInside type_tree s (p t s)) → (s : St) → PaysTree type_tree s (type_by p s)
 unfolding type_by
 type_by_p p hp s =
-    needs_p 5 _ s
+    needs_p 5 (type_step p) s
     (bind_p (next_p s) λ t s h. test_p _ _ _ s (pays (rw (of_common nodes) (omega arith)) (rw (of_common comments) (omega arith)))
     (test_p _ _ _ s (inside_p h (hp t s)) (refuse_p 4 t s)))
 
@@ -748,7 +749,7 @@ throws_p s =
 pub return_type_p : (s : St) → PaysTree type_tree s (parse_return_type s)
 unfolding parse_return_type
 return_type_p s =
-    when_p _ _ _ s (bind_p (next_p s) λ t s h. pays (rw (of_common nodes) (omega arith)) (rw (of_common comments) (omega arith))) (needs_p 7 _ s (parse_type_p s))
+    when_p _ _ _ s (bind_p (next_p s) λ t s h. pays (rw (of_common nodes) (omega arith)) (rw (of_common comments) (omega arith))) (needs_p 7 parse_type s (parse_type_p s))
 
 oneway_p : (s : St) → PaysNothing s (parse_oneway s)
 unfolding parse_oneway

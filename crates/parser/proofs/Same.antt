@@ -32,6 +32,7 @@ use Rattle.ast.proofs.Forget.{gone, nowhere, bare_l}
 use Rattle.ast.specs.Lists.{maps, opt}
 use Rattle.parser.specs.Steps.{◌>>=◌, ◌>>◌, kind, bytes, place, span, St, pos, InvalidReturnType, Raised, raise, Res, ok, no, P, bind, test, peek, when, fail, needs, refuse, next, want, start, here, taken, Fate, stop, over, wait, by, pass, skip, skip_separator, skip_comments, skip_comments_discard, skip_trivia, closed, loop, many}
 use Rattle.parser.specs.Types.{complex_type, map_type, container_type, type_by, field_type}
+use Rattle.parser.proofs.TypeStep.{type_step}
 use Rattle.parser.specs.Values.{
   values_end,
   Property,
@@ -309,7 +310,7 @@ module _ (h : Span → Span) where
   type_by_same : (p : Lexeme → P FieldType) → ((t : Lexeme) (s : St) → p (move_l h t) (move_s h s) ≡ move_r h (move_type h) (p t s)) →
       (s : St) → type_by p (move_s h s) ≡ move_r h (move_type h) (type_by p s)
   unfolding type_by move_r move_type
-  type_by_same p e s = needs_same _ _ _ (move_type h) s (simp (Move, e))
+  type_by_same p e s = needs_same _ (type_step p) (type_step p) (move_type h) s (simp (Move, e))
 
   pub type_same : (d : ℕ) (s : St) → field_type d (move_s h s) ≡ move_r h (move_type h) (field_type d s)
   unfolding field_type

@@ -67,6 +67,7 @@ use Rattle.parser.specs.Steps.{
   many,
 }
 use Rattle.parser.specs.Types.{container_types, complex_type, map_type, container_type, type_by, field_type}
+use Rattle.parser.proofs.TypeStep.{type_step}
 use Rattle.parser.specs.Values.{
   values_end,
   Property,
@@ -326,7 +327,7 @@ module _ (Good : Token → List ℕ → Type 0) (Last : LOC → Type 0) where
       {s : St} → GoodS s → Sure (WfType Good d) (type_by p s)
   unfolding type_by
   type_by_s d p hp {s} g =
-      needs_s 5 _ s
+      needs_s 5 (type_step p) s
       (bind_s (next_s g) λ t s h g. test_s _ _ _ s (λ e. sure (wcommon (record { kinds = e; good = h })) g)
       (λ n. test_s _ _ _ s (λ e. hp t (record { kinds = e; good = h }) s g) (λ m. refuse_s 4 t s)))
 
@@ -467,7 +468,7 @@ module _ (Good : Token → List ℕ → Type 0) (Last : LOC → Type 0) where
   return_type_s : {s : St} → GoodS s → Sure (WfReturn Good) (parse_return_type s)
   unfolding parse_return_type
   return_type_s {s} g =
-      when_s _ _ _ s (λ e. bind_s (next_is (T.Void ∷ []) g e) λ t s h g. sure (wvoid h) g) (needs_s 7 _ s (weak_s (λ a h. wtype h) (parse_type_s g)))
+      when_s _ _ _ s (λ e. bind_s (next_is (T.Void ∷ []) g e) λ t s h g. sure (wvoid h) g) (needs_s 7 parse_type s (weak_s (λ a h. wtype h) (parse_type_s g)))
 
   oneway_s : {s : St} → GoodS s → Sure Any (parse_oneway s)
   unfolding parse_oneway

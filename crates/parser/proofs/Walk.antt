@@ -85,6 +85,7 @@ use Rattle.parser.specs.Steps.{
 }
 use Rattle.parser.specs.Order.{token_start, token_end, InOrder, no_token_law, one_token, final, gap_kinds}
 use Rattle.parser.specs.Types.{container_types, complex_type, map_type, container_type, type_by, field_type}
+use Rattle.parser.proofs.TypeStep.{type_step}
 use Rattle.parser.specs.Values.{
   values_end,
   Property,
@@ -527,7 +528,7 @@ module _ (n : ℕ) (short : n ≤ 65536) (Holds : Lexeme → Type 0) (z : LOC) w
         {s : St} → Good a s → Keeps a (EachType Holds d) (type_by p s)
     unfolding type_by
     type_by_g d p hp g =
-        needs_g _ _ g
+        needs_g _ (type_step p) g
         (bind_g (next_g g) λ t s h g. test_g _ _ _ s (gives (ecommon h) g) (told_g _ _ _ s (λ e. hp t e h s g) (λ e. refuse_g _ refl t h s)))
 
     type_g : (d : ℕ) {a : ℕ} {s : St} → Good a s → Keeps a (EachType Holds d) (field_type d s)
@@ -660,7 +661,7 @@ module _ (n : ℕ) (short : n ≤ 65536) (Holds : Lexeme → Type 0) (z : LOC) w
 
     return_type_g : {a : ℕ} {s : St} → Good a s → Keeps a (EachType Holds 32) (parse_return_type s)
     unfolding parse_return_type
-    return_type_g {a} {s} g = when_g _ _ _ s (bind_g (next_g g) λ t s h g. gives (ecommon h) g) (needs_g _ _ g (parse_type_g g))
+    return_type_g {a} {s} g = when_g _ _ _ s (bind_g (next_g g) λ t s h g. gives (ecommon h) g) (needs_g _ parse_type g (parse_type_g g))
 
     oneway_g : {a : ℕ} {s : St} → Good a s → Keeps a Any (parse_oneway s)
     unfolding parse_oneway

@@ -1,7 +1,6 @@
 // Reading: the definitions, and what a reading answers.
 #![tactic(auto)]
 
-
 // The most containers inside one another.
 pub const NESTING: u32 = 32;
 

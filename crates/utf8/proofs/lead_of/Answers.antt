@@ -6,8 +6,7 @@ use native.Mathlib.Omega.{arith}
 use borrow.Author.Tests.{le-leb, lt-leb}
 use Rattle.utf8.specs.Utf8.{tail, sequences}
 use Rattle.utf8.proofs.Utf8Laws.{never, rest_of, below, rest_from, width_rest}
-use Rattle.utf8.proofs.lead_of.Statement.{statement}
-use Rattle.utf8.proofs.lead_of.Tie as tie
+use Rattle.utf8.proofs.lead_of.Goals as goal
 
 -- the arms that are ranges
 module _ (c : ℕ) where
@@ -36,57 +35,42 @@ module _ (c : ℕ) where
   unfolding rest_of below sequences
   row-f5 l = rest_from 9 0xf5 c refl l
 
-returns : tie.Need-returns
+pub returns-in-224 : goal.returns-in-224
 unfolding rest_of sequences
-returns c = (omega arith, λ w. width_rest _ w _ (rw c.match.keys1))
+returns-in-224 c = (omega arith, λ w. width_rest _ w _ (rw c.in-224.is))
 
-returns-2 : tie.Need-returns-2
+pub returns-in-237 : goal.returns-in-237
 unfolding rest_of sequences
-returns-2 c = (omega arith, λ w. width_rest _ w _ (rw c.match.keys2))
+returns-in-237 c = (omega arith, λ w. width_rest _ w _ (rw c.in-237.is))
 
-returns-3 : tie.Need-returns-3
+pub returns-in-240 : goal.returns-in-240
 unfolding rest_of sequences
-returns-3 c = (omega arith, λ w. width_rest _ w _ (rw c.match.keys3))
+returns-in-240 c = (omega arith, λ w. width_rest _ w _ (rw c.in-240.is))
 
-returns-4 : tie.Need-returns-4
+pub returns-in-244 : goal.returns-in-244
 unfolding rest_of sequences
-returns-4 c = (omega arith, λ w. width_rest _ w _ (rw c.match.keys4))
+returns-in-244 c = (omega arith, λ w. width_rest _ w _ (rw c.in-244.is))
 
-returns-5 : tie.Need-returns-5
+pub returns-in-194-to-223 : goal.returns-in-194-to-223
 unfolding tail
-returns-5 c = (omega arith, λ w. width_rest _ w _ (row-c2 _ (omega arith) (omega arith)))
+returns-in-194-to-223 c = (omega arith, λ w. width_rest _ w _ (row-c2 _ (omega arith) (omega arith)))
 
-returns-6 : tie.Need-returns-6
+pub returns-in-225-to-236 : goal.returns-in-225-to-236
 unfolding tail
-returns-6 c = (omega arith, λ w. width_rest _ w _ (row-e1 _ (omega arith) (omega arith)))
+returns-in-225-to-236 c = (omega arith, λ w. width_rest _ w _ (row-e1 _ (omega arith) (omega arith)))
 
-returns-7 : tie.Need-returns-7
+pub returns-in-238-to-239 : goal.returns-in-238-to-239
 unfolding tail
-returns-7 c = (omega arith, λ w. width_rest _ w _ (row-ee _ (omega arith) (omega arith)))
+returns-in-238-to-239 c = (omega arith, λ w. width_rest _ w _ (row-ee _ (omega arith) (omega arith)))
 
-returns-8 : tie.Need-returns-8
+pub returns-in-241-to-243 : goal.returns-in-241-to-243
 unfolding tail
-returns-8 c = (omega arith, λ w. width_rest _ w _ (row-f1 _ (omega arith) (omega arith)))
+returns-in-241-to-243 c = (omega arith, λ w. width_rest _ w _ (row-f1 _ (omega arith) (omega arith)))
 
-returns-9 : tie.Need-returns-9
+pub returns-in_default : goal.returns-in_default
 unfolding never
-returns-9 c = (omega arith, λ w. width_rest _ w _ (row-80 _ (omega arith) (omega arith)))
+returns-in_default c = (omega arith, λ w. width_rest _ w _ (row-80 _ (omega arith) (omega arith)))
 
-returns-10 : tie.Need-returns-10
+pub returns-in_default-2 : goal.returns-in_default-2
 unfolding never
-returns-10 c = (omega arith, λ w. width_rest _ w _ (row-f5 _ (omega arith)))
-
-pub lead-of-spec : {M : Type 1} → statement M
-lead-of-spec =
-    tie.close
-    (tie.spec
-    returns
-    returns-2
-    returns-3
-    returns-4
-    returns-5
-    returns-6
-    returns-7
-    returns-8
-    returns-9
-    returns-10)
+returns-in_default-2 c = (omega arith, λ w. width_rest _ w _ (row-f5 _ (omega arith)))
