@@ -1,3 +1,2 @@
 // The IDL's IntConstant and DoubleConstant beside the token patterns: definitions and laws, no code.
 #![tactic(auto)]
-

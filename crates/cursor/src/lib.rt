@@ -1,7 +1,6 @@
 // Where the printer stands, the records that it prints from, and the output.
 #![tactic(auto)]
 
-
 ghost use Rattle.std.specs.Prelude.{◌≡◌, ◌++◌, ◌-◌, ◌≤◌, ◌<◌, length, take, drop, replicate, get_or};
 ghost use Rattle.ast.specs.Column as C;
 ghost use Rattle.ast.specs.Records.{comment_width, node_width, room};

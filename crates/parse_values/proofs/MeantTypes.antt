@@ -15,6 +15,7 @@ use Rattle.lexer.specs.Tokens.{Lexeme, lexeme}
 use Rattle.ast.specs.Ast.{FieldType, CommonType, ListType, SetType}
 use Rattle.ast.specs.Tree.{Tree, node, Forest, leaf, inner, single, both, type_tree}
 use Rattle.steps.specs.declared.state.State.{State}
+use Rattle.parser.proofs.TypeStep.{type_step}
 use Rattle.parser.specs.Steps.{kind, place, span, St, MissingTypeDeclaration, P, test, refuse}
 use Rattle.parser.specs.Types as D
 use Rattle.parser.specs.Types.{leaf_types, container_types, complex_type, map_type, field_type}
@@ -82,7 +83,7 @@ module _ (text : List ℕ) (short : length text ≤ 65536) where
       → At text i b p fr f st t u s → Meant (λ a. At text i b p fr (f ⊕ single (type_tree a))) (type_by text m b p st t u) (D.type_by q s)
   unfolding type_by D.type_by leaf_in
   type_by_m b p m q {f = f} {st = st} {s = s} insides h =
-      needs_m UnexpectedEOF MissingTypeDeclaration _ s (next_none _)
+      needs_m UnexpectedEOF MissingTypeDeclaration (type_step q) s (next_none _)
       (bind_m (take_m text short _ h) λ tok st₁ t₁ u₁ s₁ h₁.
       let c = h₁.first.coded in
       unless_m _ _ s₁ _ (among (kind tok) leaf_types) (ap (λ (n : ℕ). eqb (leaf_type n) 0) c ∙ leaf_type_none (kind tok))

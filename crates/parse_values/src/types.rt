@@ -42,7 +42,7 @@ fn container_type(kind: u32) -> u32
 
 // parse_field_type with `depth` containers left: the next one inside is 23 at its keyword.
 // Type ::= keyword | name | ('list' | 'set') '<' Type '>' | 'map' '<' Type ',' Type '>'
-#[cycle(parse_complex_type_parse_contained_parse_type)]
+#[cycle(types)]
 pub fn parse_type(
     lut: &[u8; 768],
     text: &[u8],
@@ -73,7 +73,7 @@ pub fn parse_type(
 }
 
 // parse_complex_type, parse_map_type: behind the container's keyword.
-#[cycle(parse_complex_type_parse_contained_parse_type)]
+#[cycle(types)]
 fn parse_complex_type(
     lut: &[u8; 768],
     text: &[u8],
@@ -109,7 +109,7 @@ fn parse_complex_type(
 }
 
 // The contained type; of a map both, with the comma between.
-#[cycle(parse_complex_type_parse_contained_parse_type)]
+#[cycle(types)]
 fn parse_contained(
     lut: &[u8; 768],
     text: &[u8],

@@ -44,7 +44,7 @@ fn is_opener(kind: u32) -> bool
 
 // parse_field_value with `depth` containers left: the next one inside is 23 at its bracket.
 // Value ::= string | integer | double | boolean | hex | name | List | Map
-#[cycle(parse_elements_parse_list_value_parse_map_value_parse_properties_parse_property_parse_value)]
+#[cycle(values)]
 pub fn parse_value(
     lut: &[u8; 768],
     text: &[u8],
@@ -78,7 +78,7 @@ pub fn parse_value(
 
 // parse_list_value: behind the bracket.
 // List ::= '[' (Separator* Comment* Value)* Separator* Comment* ']'
-#[cycle(parse_elements_parse_list_value_parse_map_value_parse_properties_parse_property_parse_value)]
+#[cycle(values)]
 fn parse_list_value(
     lut: &[u8; 768],
     text: &[u8],
@@ -106,7 +106,7 @@ fn parse_list_value(
 }
 
 // The elements up to the closing bracket, and that. An element of one token, the usual case, is read here: no call, no state copied.
-#[cycle(parse_elements_parse_list_value_parse_map_value_parse_properties_parse_property_parse_value)]
+#[cycle(values)]
 fn parse_elements(
     lut: &[u8; 768],
     text: &[u8],
@@ -141,7 +141,7 @@ fn parse_elements(
 
 // parse_map_value: behind the brace.
 // Map ::= '{' (Separator* Comment* Property)* Separator* Comment* '}'
-#[cycle(parse_elements_parse_list_value_parse_map_value_parse_properties_parse_property_parse_value)]
+#[cycle(values)]
 fn parse_map_value(
     lut: &[u8; 768],
     text: &[u8],
@@ -169,7 +169,7 @@ fn parse_map_value(
 }
 
 // The properties up to the closing brace, and that.
-#[cycle(parse_elements_parse_list_value_parse_map_value_parse_properties_parse_property_parse_value)]
+#[cycle(values)]
 fn parse_properties(
     lut: &[u8; 768],
     text: &[u8],
@@ -198,7 +198,7 @@ fn parse_properties(
 
 // A property: two values with a colon between.
 // Property ::= Value ':' Value
-#[cycle(parse_elements_parse_list_value_parse_map_value_parse_properties_parse_property_parse_value)]
+#[cycle(values)]
 fn parse_property(
     lut: &[u8; 768],
     text: &[u8],

@@ -1,7 +1,6 @@
 // From a text and its tables to its print.
 #![tactic(auto)]
 
-
 // The most spaces a level.
 pub const WIDEST: u32 = 8;
 

@@ -1,0 +1,43 @@
+-- `move_tables::bad_parent` meets its contract. The invariant: what is found from here on is what is found from the start.
+use mathlib.Core.Path.{sym, ◌∙◌}
+use mathlib.Core.List.{[], ◌∷◌}
+use Prim.Native.Nat.{◌-◌}
+use borrow.Author.Tests.{not-true, not-false}
+use borrow.Author.Rules.{rules}
+use Rattle.ast.specs.Records.{no_parent}
+use Rattle.move_tables.specs.Moves.{bad_parent}
+use Rattle.move_tables.specs.Walk.{parents_from}
+use Rattle.move_tables.proofs.Ancestors.{Scan, holds_less, scan_start, scan_stands, scan_bad, scan_on, scan_done}
+use Rattle.move_tables.proofs.bad_parent.Goals as goal
+
+pub loop-n-init : goal.loop-n-init
+unfolding no_parent
+loop-n-init c = scan_start _
+
+
+pub parent-p-requires : goal.parent-p-requires
+parent-p-requires c = holds_less c.loop-n-test.true c.requires
+
+
+pub reaches-requires : goal.reaches-requires
+reaches-requires c = scan_stands c.loop-n-test.true c.loop-n.invariant c.requires
+
+
+pub returns-then-not-reaches : goal.returns-then-not-reaches
+returns-then-not-reaches c =
+    let s = c.loop-n.invariant in
+    let e = sym (c.reaches.ensures s.ancestors s.is) ∙ not-true c.reaches.result c.if-not-reaches.true in
+    scan_bad c.loop-n-test.true s (rw c.parent-p.ensures at e)
+
+
+pub loop-n-preserved : goal.loop-n-preserved
+loop-n-preserved c =
+    let s = c.loop-n.invariant in
+    let e = sym (c.reaches.ensures s.ancestors s.is) ∙ not-false c.reaches.result c.if-not-reaches.false in
+    scan_on c.loop-n-test.true s (rw c.parent-p.ensures at e)
+
+
+pub returns : goal.returns
+unfolding no_parent
+returns c = scan_done c.loop-n-test.false c.loop-n.invariant
+

@@ -1,0 +1,10 @@
+-- `steps::packed::column_of` meets its contract.
+use mathlib.Core.Path.{refl}
+use borrow.Author.Rules.{rules}
+use Rattle.steps.specs.Packed.{unpacked}
+use Rattle.steps.proofs.packed.column_of.Goals as goal
+
+pub returns : goal.returns
+unfolding unpacked
+returns c = refl
+

@@ -1,0 +1,10 @@
+-- `steps::packed::index_of` meets its contract.
+use mathlib.Core.Path.{refl}
+use borrow.Author.Rules.{rules}
+use Rattle.steps.specs.Packed.{unpacked}
+use Rattle.steps.proofs.packed.index_of.Goals as goal
+
+pub returns : goal.returns
+unfolding unpacked
+returns c = refl
+
