@@ -1,4 +1,4 @@
-// The library that `rt staticlib link` made; compare/run names its folder.
+// The library that `rt lib` made in crates/link; compare/run names its folder.
 fn main() {
     let folder = std::env::var("STATICLIB").expect("STATICLIB: the folder of liblink.a");
     println!("cargo:rustc-link-search=native={folder}");

@@ -5,6 +5,7 @@ The class of each byte, and the keywords as a double-array trie. Nothing here is
 the patterns by computed tests. Run from the repository's root; prints the nodes that spell a word, for words::kind_of."""
 import re
 import string
+import textwrap
 
 patterns = open("crates/token/specs/Patterns.antt").read()
 body = patterns[patterns.index("\nwords =") : patterns.index("-- the #[token(\"..\")] of one sign")]
@@ -47,8 +48,14 @@ while queue:
 trie = base + check
 
 
-def array(xs, mark=lambda i: ""):
-    return "".join(f"    {x},{mark(i)}\n" for i, x in enumerate(xs))
+def marked(xs):
+    """Each number on a line of its own, with its place."""
+    return "".join(f"    {x}, // {i:02x}\n" for i, x in enumerate(xs))
+
+
+def filled(xs):
+    """Numbers as rt fmt lays them."""
+    return textwrap.fill(" ".join(f"{x}," for x in xs), 99, initial_indent="    ", subsequent_indent="    ") + "\n"
 
 
 def cons(xs, width=32):
@@ -60,12 +67,11 @@ open("crates/lexer/src/table.rt", "w").write(f"""// The lexer's constant table, 
 // The class of each byte: 0 to 7 digits, 8 to 35 letters and `_`, then the dot and the other signs.
 // From 256 on the keywords as a double-array trie. A number n and a class k lead to the number LUT[256 + n] + k if LUT[512 + that] is n, else to 0.
 pub const LUT: [u8; 768] = [
-{array(classes + trie, lambda i: f' // {i:02x}' if i < 256 else '')}];
+{marked(classes)}{filled(trie)}];
 """)
 open("crates/token/specs/Tables.antt", "w").write(f"""-- The constant tables of the lexer, and what their entries stand for. Made by tools/lexer_tables.py.
-use Prim.Native.Nat.{{ℕ}}
+use Rattle.std.specs.Prelude.{{ℕ, List, [], ◌∷◌, ◌++◌}}
 use Prim.Native.String.{{String}}
-use mathlib.Core.List.{{List, [], _∷_, _++_}}
 
 -- the class of each byte
 unfoldable pub classes : List ℕ

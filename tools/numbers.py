@@ -21,10 +21,10 @@ WITHIN = [("crates/token/src/kind.rt", "crates/token/specs/Kind.antt")]
 # numbers that are written by hand in each language: the code's, and where else the same number stands
 CODE, SPECS, C, CRATE = r"pub const {}: usize = (\d+);", r"(?m)^{} = (\d+)$", r"#define HIRVELAN_{} (\d+)u", r"pub const {}: usize = ([\d_]+);"
 SIZES = [
-    ("crates/ast/src/lib.rt", "NODE_WIDTH", "crates/ast/specs/Records.antt", "nodeWidth"),
-    ("crates/ast/src/lib.rt", "COMMENT_WIDTH", "crates/ast/specs/Records.antt", "commentWidth"),
+    ("crates/ast/src/lib.rt", "NODE_WIDTH", "crates/ast/specs/Records.antt", "node_width"),
+    ("crates/ast/src/lib.rt", "COMMENT_WIDTH", "crates/ast/specs/Records.antt", "comment_width"),
     ("crates/ast/src/column.rt", "PAST", "crates/ast/specs/Column.antt", "Past"),
-    ("crates/move_tables/src/lib.rt", "MOST_RECORDS", "crates/move_tables/specs/Moves.antt", "mostRecords"),
+    ("crates/move_tables/src/lib.rt", "MOST_RECORDS", "crates/move_tables/specs/Moves.antt", "most_records"),
 ]
 HEADER = "command/include/hirvelan_numbers.h"
 RUST = "command/hirvelan/src/numbers.rs"

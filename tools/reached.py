@@ -22,17 +22,18 @@ def words(text):
         yield word
         if word == "do":
             yield from (">>=", ">>")
-        # a qualified name is ALIAS.name
+        # a qualified name is ALIAS.name, and a field of a value VALUE.field
         if "." in word.strip("."):
             yield tuple(word.split(".", 1))
+            yield word.split(".", 1)[0]
 
 def uncommented(text, mark):
     return "\n".join(line.split(mark, 1)[0] for line in text.split("\n"))
 
 def module_file(path, crate):
-    """The specs file behind a module path as `Rattle·parser.specs.Read` or, inside parser, `Rattle·parser·specs.specs.Read`."""
-    m = re.match(r"Rattle·(\w+)(?:·specs)?\.specs\.(.+)$", path)
-    if not m or m.group(2).startswith("declared."):
+    """The specs file behind a module path as `Rattle.parser.specs.Read`; None for a module of std or one that a crate's types make."""
+    m = re.match(r"Rattle\.(\w+)\.specs\.(.+)$", path)
+    if not m or m.group(2).startswith("declared.") or not os.path.isdir(f"crates/{m.group(1)}"):
         return None
     return f"crates/{m.group(1)}/specs/{m.group(2).replace('.', '/')}.antt"
 
@@ -94,8 +95,8 @@ class Module:
         self.owner[name] = name
         self.uses.setdefault(name, [])
         self.order.append(name)
-        # an operator `_⨟_` is used as ⨟
-        bare = name.strip("_")
+        # an operator `◌⨟◌` is used as ⨟
+        bare = name.strip("◌")
         if bare != name:
             self.owner.setdefault(bare, name)
         return name
@@ -109,7 +110,7 @@ class Module:
         if word in self.names:
             return self.names[word]
         for name, there in self.names.items():
-            if name.startswith("_") and name.strip("_") == word:
+            if name.startswith("◌") and name.strip("◌") == word:
                 return there
         return None
 

@@ -1,4 +1,4 @@
-/* Hirvelan for C: reads and prints Thrift definitions. Link target/staticlib/liblink.a (`rt staticlib link` makes it); it needs memset and nothing else.
+/* Hirvelan for C: reads and prints Thrift definitions. Link crates/link/out/liblink.a (`rt lib` in crates/link makes it); it needs memset and nothing else.
  *
  * The functions without `_safe` are the proved library's own. Their contracts (crates/link/src/lib.rt) hold for every text, indent, table length and content:
  * each call ends, and answer, tables and output are as defined. What no contract can say, the caller has to see to; it stands beside each function.

@@ -841,7 +841,7 @@ impl Compare {
 
     fn kept(&mut self, folder: &str) {
         self.begin("texts of the kept lists");
-        for (name, tokens) in [("tokens.list", true), ("differences.list", true), ("answers.list", false), ("panics.list", false)] {
+        for (name, tokens) in [("../crates/replay_tokens/stdin", true), ("differences.list", true), ("../crates/replay_nodes/stdin", false), ("panics.list", false)] {
             let bytes = std::fs::read(format!("{folder}/{name}")).expect(name);
             for text in kept(&bytes, tokens) {
                 self.text(text, Care::Usual);

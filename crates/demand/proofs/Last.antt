@@ -48,6 +48,8 @@ final_on n (cut k w r cs) s l h g = go (skipped k) (final_on n cs (pass w k r s)
 
 final_long : (cs : Cuts) (s : Lexer) (l : LOC) → Long (lexemes cs s) → 2 ≤ (final l (lexemes cs s)).end.index
 unfolding final lexemes place between span_of
+final_long end s l h = elim h [ ]
+final_long stuck s l h = elim h [ ]
 final_long (cut k w r cs) s l h = go (skipped k) h (final_long cs (pass w k r s))
   where
     far : 2 ≤ length w → 2 ≤ (pass w k r s).at
@@ -62,6 +64,7 @@ final_long (cut k w r cs) s l h = go (skipped k) h (final_long cs (pass w k r s)
 
 long_bare : (ts : List Lexeme) → Long (bares ts) → Long ts
 unfolding moves move_l
+long_bare [] h = elim h [ ]
 long_bare (lexeme k w l ∷ ts) (here g) = here g
 long_bare (lexeme k w l ∷ ts) (there g) = there (long_bare ts g)
 

@@ -1,7 +1,6 @@
 // Demand 3: any list of readings and printings of one file.
 #![tactic(auto)]
 
-
 ghost use Rattle.std.specs.Prelude.{◌≡◌, true, not, ◌++◌, ℕ, ◌+◌, ◌≤◌, min, eqb, length, take, drop, get_or};
 ghost use Rattle.parser.specs.Read.{reading};
 ghost use Rattle.file.specs.Run.{ask, requests_of, file_of, memory, kept_in, after, runs, Unaltered};

@@ -177,7 +177,7 @@ module _ (text : List ℕ) (short : length text ≤ 65536) where
       one_m text short T.Void _ _ s h
       (λ e. last_m (leaf_m 18 (step_m text short (T.Void ∷ []) s e h)) λ tok st₁ t₁ u₁ s₁ h₁.
       went (less (regrown (ap (λ (z : Tree). f ⊕ single z) (void_tree tok h₁.kinds)) h₁.at)))
-      (λ e. needs_m MissingTypeDeclaration InvalidReturnType _ s type_missing (type_m text short 32 h))
+      (λ e. needs_m MissingTypeDeclaration InvalidReturnType parse_type s type_missing (type_m text short 32 h))
 
   oneway_by_law : {i b p : ℕ} {fr : Frame} {f : Forest} {st : State} {t u : List ℕ} {s : St} → At text i b p fr f st t u s
       → (z : Bool) → eqb st.kind 50 ≡ z → peek (T.Oneway ∷ []) s ≡ z

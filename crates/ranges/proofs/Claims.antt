@@ -13,7 +13,7 @@ use Rattle.lexer.specs.Outcome.{accepted}
 use Rattle.lexer.specs.Tokens.{Lexeme, tokens}
 use Rattle.ast.specs.Ast as A
 use Rattle.ast.specs.Kind as K
-use Rattle.ast.specs.Lists.{All, acons}
+use Rattle.ast.specs.Lists.{All, anil, acons}
 use Rattle.ast.specs.Records.{no_parent, rows_of, forest, node_rows}
 use Rattle.ast.proofs.Bools.{and_left, and_right}
 use Rattle.ast.proofs.Counts.{node_rows_size}
@@ -30,6 +30,7 @@ use Rattle.ranges.proofs.Rows.{Trees, trees_of, Row, is_top, is_child, from_row,
 
 -- of each of a list's members
 of_member : {A : Type 0} {P : A → Type 0} {x : A} {xs : List A} → All P xs → Memᴰ x xs → P x
+of_member {A = A} {P = P} anil x4 = elim x4 [ ]
 of_member (acons h hs) (Memᴰ.head e) = rw e h
 of_member (acons h hs) (Memᴰ.tail m) = of_member hs m
 

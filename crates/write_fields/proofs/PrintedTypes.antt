@@ -98,6 +98,9 @@ module _ (j : Job) where
       Got (At j r (n + size (type_tree ty)) R C) (type_out j.text j.nodes j.count d p o)
   unfolding type_out type_tree leaf inner write_type under ascii
   type_printed zero (CommonType x) q n r R C p o (ecommon g) a = common_printed x q n r R C p o g a
+  type_printed zero (ListType l k ty) q n r R C p o e a = elim e [ ]
+  type_printed zero (SetType l k ty) q n r R C p o e a = elim e [ ]
+  type_printed zero (MapType l k ty tz) q n r R C p o e a = elim e [ ]
   type_printed (suc d) (CommonType (lexeme t w l)) q n r R C p o (ecommon g) a =
       rw (kind_is j (cond (is t Tok.Identifier) 19 18) q 0 l _ a, not_container (is t Tok.Identifier)) (common_printed (lexeme t w l) q n r R C p o g a)
   type_printed (suc d) (ListType l k ty) q n r R C p o (elist w g) a =

@@ -217,6 +217,8 @@ module _ (j : Job) where
       Got (At j r (n + size (value_tree v)) R C) (value_out j.text j.nodes j.count d p o)
   unfolding value_out value_tree literal_tree leaf inner value_kind write_value under ascii bytes_of
   value_printed zero (ConstValue x) q n r R C p o (eleaf g) b a = literal_printed j x q n r R C p o g a
+  value_printed zero (ConstList l vs) q n r R C p o e b a = elim e [ ]
+  value_printed zero (ConstMap l ps) q n r R C p o e b a = elim e [ ]
   value_printed (suc d) (ConstValue (lexeme t w l)) q n r R C p o (eleaf g) b a =
       rw (
         kind_is j (value_kind t) q 0 l _ a,

@@ -12,7 +12,7 @@ use cursor::Cursor;
 use parser::NESTING;
 
 // list< or set<, the contained type, >
-#[cycle(write_container_write_map_type_write_type)]
+#[cycle(types)]
 fn write_container(
     text: &[u8],
     nodes: &[u32],
@@ -29,7 +29,7 @@ fn write_container(
 }
 
 // map<, both types, >
-#[cycle(write_container_write_map_type_write_type)]
+#[cycle(types)]
 fn write_map_type(text: &[u8], nodes: &[u32], out: &mut [u8], at: Cursor, depth: u32) -> Cursor
     ensures { Writes (map_type_out (type_out text.now nodes.now (room node_width nodes.now) depth)) at result out.old out.new }
 {
@@ -41,7 +41,7 @@ fn write_map_type(text: &[u8], nodes: &[u32], out: &mut [u8], at: Cursor, depth:
 }
 
 // write_field_type, with `depth` containers left
-#[cycle(write_container_write_map_type_write_type)]
+#[cycle(types)]
 fn write_type(text: &[u8], nodes: &[u32], out: &mut [u8], at: Cursor, depth: u32) -> Cursor
     ensures { Writes (type_out text.now nodes.now (room node_width nodes.now) depth) at result out.old out.new }
 {
@@ -72,7 +72,7 @@ fn put_comma(out: &mut [u8], at: Cursor, first: bool) -> Cursor
 }
 
 // write_field_value, with `depth` containers left
-#[cycle(write_element_write_elements_write_list_write_map_write_properties_write_property_write_value)]
+#[cycle(values)]
 pub fn write_value(text: &[u8], nodes: &[u32], out: &mut [u8], at: Cursor, depth: u32) -> Cursor
     ensures { Writes (value_out text.now nodes.now (room node_width nodes.now) depth) at result out.old out.new }
 {
@@ -90,7 +90,7 @@ pub fn write_value(text: &[u8], nodes: &[u32], out: &mut [u8], at: Cursor, depth
 }
 
 // [, the elements, ]
-#[cycle(write_element_write_elements_write_list_write_map_write_properties_write_property_write_value)]
+#[cycle(values)]
 fn write_list(text: &[u8], nodes: &[u32], out: &mut [u8], at: Cursor, depth: u32) -> Cursor
     ensures { Writes (brackets_out nodes.now (room node_width nodes.now) "[" "]" (value_out text.now nodes.now (room node_width nodes.now) depth)) at result out.old out.new }
 {
@@ -100,7 +100,7 @@ fn write_list(text: &[u8], nodes: &[u32], out: &mut [u8], at: Cursor, depth: u32
 }
 
 // an element or a default; most are one token
-#[cycle(write_element_write_elements_write_list_write_map_write_properties_write_property_write_value)]
+#[cycle(values)]
 fn write_element(text: &[u8], nodes: &[u32], out: &mut [u8], at: Cursor, depth: u32) -> Cursor
     ensures { Writes (value_out text.now nodes.now (room node_width nodes.now) depth) at result out.old out.new }
 {
@@ -110,7 +110,7 @@ fn write_element(text: &[u8], nodes: &[u32], out: &mut [u8], at: Cursor, depth: 
     write_value(text, nodes, out, at, depth)
 }
 
-#[cycle(write_element_write_elements_write_list_write_map_write_properties_write_property_write_value)]
+#[cycle(values)]
 fn write_elements(
     text: &[u8],
     nodes: &[u32],
@@ -137,7 +137,7 @@ fn write_elements(
 }
 
 // {, the properties, }
-#[cycle(write_element_write_elements_write_list_write_map_write_properties_write_property_write_value)]
+#[cycle(values)]
 fn write_map(text: &[u8], nodes: &[u32], out: &mut [u8], at: Cursor, depth: u32) -> Cursor
     ensures { Writes (brackets_out nodes.now (room node_width nodes.now) "{" "}" (property_out (value_out text.now nodes.now (room node_width nodes.now) depth))) at result out.old out.new }
 {
@@ -146,7 +146,7 @@ fn write_map(text: &[u8], nodes: &[u32], out: &mut [u8], at: Cursor, depth: u32)
     cursor::put(out, inner, b"}")
 }
 
-#[cycle(write_element_write_elements_write_list_write_map_write_properties_write_property_write_value)]
+#[cycle(values)]
 fn write_properties(
     text: &[u8],
     nodes: &[u32],
@@ -172,7 +172,7 @@ fn write_properties(
     now
 }
 
-#[cycle(write_element_write_elements_write_list_write_map_write_properties_write_property_write_value)]
+#[cycle(values)]
 fn write_property(text: &[u8], nodes: &[u32], out: &mut [u8], at: Cursor, depth: u32) -> Cursor
     ensures { Writes (property_out (value_out text.now nodes.now (room node_width nodes.now) depth)) at result out.old out.new }
 {

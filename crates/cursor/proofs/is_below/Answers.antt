@@ -8,13 +8,10 @@ pub returns-then-parent-owner : goal.returns-then-parent-owner
 unfolding below
 returns-then-parent-owner c = rw (lt-ltb _ _ c.if-parent-owner.true)
 
-
 pub returns-then-parent-eq-NO_PARENT : goal.returns-then-parent-eq-NO_PARENT
 unfolding below no_parent
 returns-then-parent-eq-NO_PARENT c = rw (le-ltb _ _ c.if-parent-owner.false, eq-eqb _ _ c.if-parent-eq-NO_PARENT.true)
 
-
 pub returns : goal.returns
 unfolding below no_parent
 returns c = rw (le-ltb _ _ c.if-parent-owner.false, ne_eqb _ _ c.if-parent-eq-NO_PARENT.false)
-

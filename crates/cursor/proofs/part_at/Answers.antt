@@ -2,7 +2,6 @@
 use mathlib.Core.Path.{◌∙◌}
 use native.Mathlib.Nat.{mul-le-mul_left}
 use native.Mathlib.Omega.{arith}
-use borrow.Author.Rules.{rules}
 use Rattle.ast.specs.Column as C
 use Rattle.ast.specs.Records.{node_width}
 use Rattle.cursor.proofs.Bytes.{number_in}
@@ -12,21 +11,17 @@ pub overflow_mul-at : goal.overflow_mul-at
 unfolding node_width
 overflow_mul-at c = omega (arith, mul-le-mul_left c.args.row c.requires.1)
 
-
 pub overflow_add-at : goal.overflow_add-at
 unfolding node_width
 overflow_add-at c = omega (arith, mul-le-mul_left c.args.row c.requires.1)
-
 
 pub overflow_add-at-then-table-at : goal.overflow_add-at-then-table-at
 unfolding node_width
 overflow_add-at-then-table-at c = omega (arith, mul-le-mul_left c.args.row c.requires.1)
 
-
 pub overflow_add-at-then-table-at-2 : goal.overflow_add-at-then-table-at-2
 unfolding node_width
 overflow_add-at-then-table-at-2 c = omega (arith, mul-le-mul_left c.args.row c.requires.1)
-
 
 pub returns-then-table-at : goal.returns-then-table-at
 returns-then-table-at c = (
@@ -34,7 +29,5 @@ returns-then-table-at c = (
   c.or_zero-then-table-at.ensures ∙ number_in _ _ _ C.End (omega arith),
 )
 
-
 pub returns : goal.returns
 returns c = (number_in _ _ _ C.Start (omega arith), number_in _ _ _ C.End (omega arith))
-

@@ -4,6 +4,10 @@ use Rattle.ast.specs.Records.{comment_width, node_width}
 use Rattle.cursor.proofs.Runs.{comment_is}
 use Rattle.cursor.proofs.put_comment.Goals as goal
 
+pub part_at-part-requires : goal.part_at-part-requires
+unfolding node_width
+part_at-part-requires c = search rules
+
 pub returns : goal.returns
 unfolding comment_width
 returns c =
@@ -14,4 +18,3 @@ returns c =
     c.put_part-noted.ensures
     c.put-ended.ensures
     (c.pass_comment.ensures _)
-

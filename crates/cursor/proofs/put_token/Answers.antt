@@ -4,7 +4,10 @@ use Rattle.ast.specs.Records.{node_width}
 use Rattle.cursor.proofs.Runs.{token_is}
 use Rattle.cursor.proofs.put_token.Goals as goal
 
+pub part_at-part-requires : goal.part_at-part-requires
+unfolding node_width
+part_at-part-requires c = search rules
+
 pub returns : goal.returns
 unfolding node_width
 returns c = token_is _ _ _ _ _ _ _ _ _ c.part_at-part.ensures.0 c.part_at-part.ensures.1 c.put_part-behind.ensures (c.pass_node.ensures _)
-

@@ -8,6 +8,8 @@ use Rattle.ast.specs.Records.{no_parent}
 use Rattle.move_tables.specs.Moves.{bad_parent}
 use Rattle.move_tables.specs.Walk.{parents_from}
 use Rattle.move_tables.proofs.Ancestors.{Scan, holds_less, scan_start, scan_stands, scan_bad, scan_on, scan_done}
+use mathlib.Core.Bool.{not}
+use mathlib.Core.Path.{ap}
 use Rattle.move_tables.proofs.bad_parent.Goals as goal
 
 pub loop-n-init : goal.loop-n-init
@@ -26,14 +28,14 @@ reaches-requires c = scan_stands c.loop-n-test.true c.loop-n.invariant c.require
 pub returns-then-not-reaches : goal.returns-then-not-reaches
 returns-then-not-reaches c =
     let s = c.loop-n.invariant in
-    let e = sym (c.reaches.ensures s.ancestors s.is) ∙ not-true c.reaches.result c.if-not-reaches.true in
+    let e = sym (c.reaches.ensures s.ancestors s.is) ∙ not-true c.reaches.result (ap not c.if-not-reaches.true) in
     scan_bad c.loop-n-test.true s (rw c.parent-p.ensures at e)
 
 
 pub loop-n-preserved : goal.loop-n-preserved
 loop-n-preserved c =
     let s = c.loop-n.invariant in
-    let e = sym (c.reaches.ensures s.ancestors s.is) ∙ not-false c.reaches.result c.if-not-reaches.false in
+    let e = sym (c.reaches.ensures s.ancestors s.is) ∙ not-false c.reaches.result (ap not c.if-not-reaches.false) in
     scan_on c.loop-n-test.true s (rw c.parent-p.ensures at e)
 
 

@@ -8,6 +8,8 @@ use Rattle.ast.specs.Records.{no_parent}
 use Rattle.move_tables.specs.Moves.{bad_parent}
 use Rattle.move_tables.specs.Walk.{parents_from}
 use Rattle.move_tables.proofs.Ancestors.{Scan, holds_less, scan_start, scan_stands, scan_bad, scan_on, scan_done}
+use mathlib.Core.Bool.{not}
+use mathlib.Core.Path.{ap}
 use Rattle.move_tables.proofs.bad_parent.Given as goal
 
 abbrev pub invariant-loop-n : goal.invariant-loop-n

@@ -29,5 +29,5 @@ loop-a-preserved c = rw (c.parent-a.ensures, c.lower_bad-lowest.ensures) (ending
 
 
 pub returns : goal.returns
-returns c = ending_done c.requires.holds.few c.loop-a-test.false c.loop-a.invariant ancestors is
+returns c = λ ancestors is. ending_done c.requires.holds.few c.loop-a-test.false c.loop-a.invariant ancestors is
 

@@ -11,7 +11,7 @@ loop-a-init c = climb_start _ c.requires
 pub returns-then-a : goal.returns-then-a
 unfolding no_parent
 returns-then-a c =
-    climb_stop c.requires.holds.few c.loop-a.invariant ancestors is c.loop-a-test.true c.if-a.true
+    λ ancestors is. climb_stop c.requires.holds.few c.loop-a.invariant ancestors is c.loop-a-test.true c.if-a.true
 
 
 pub parent-a-requires : goal.parent-a-requires
@@ -39,5 +39,5 @@ loop-a-preserved c =
 
 
 pub returns : goal.returns
-returns c = climb_found c.requires.holds.few c.loop-a.invariant ancestors is c.loop-a-test.false
+returns c = λ ancestors is. climb_found c.requires.holds.few c.loop-a.invariant ancestors is c.loop-a-test.false
 

@@ -57,5 +57,5 @@ shape_of-out c = c.loop-a.invariant.0
 
 
 pub returns : goal.returns
-returns c = ending_done c.requires.0.holds.few c.loop-a-test.false c.loop-a.invariant.1 ancestors is
+returns c = λ ancestors is. ending_done c.requires.0.holds.few c.loop-a-test.false c.loop-a.invariant.1 ancestors is
 

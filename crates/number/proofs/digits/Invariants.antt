@@ -11,7 +11,5 @@ use Rattle.number.proofs.digits.Given as goal
 abbrev pub invariant-loop-i : goal.invariant-loop-i
 invariant-loop-i l = (l.i ≤ length l.bytes) × (l.value ≤ l.most) × (digits l.base 0 l.bytes ≡ digits l.base l.value (drop l.i l.bytes))
 
-
 abbrev pub decreases-loop-i : goal.decreases-loop-i
 decreases-loop-i l = length l.bytes - l.i
-

@@ -14,21 +14,17 @@ use Rattle.place.proofs.WalkLaws.{step_length, step_line}
 use Rattle.place.proofs.pass_first.Goals as goal
 use Rattle.place.proofs.pass_first.Goals.{Else-code-eq-NEWLINE}
 
-{- LEFT
-module _ (c : tie.After-pass-lexeme-arg) where
+module _ (c : Else-code-eq-NEWLINE) where
   -- how many bytes are passed
-  some-passed : c.before.before.before.first.result.length ≤ c.before.before.before.before.before.args.most
-  some-passed =
-      let a = c.before.before.before.before.before in
-      rw c.before.before.before.first.ensures.1 (step_length _ _ a.requires.1 a.requires.2).1
+  some_passed : c.first-piece.result.length ≤ c.args.most
+  some_passed = rw c.first-piece.ensures.1 (step_length _ _ c.requires.1 c.requires.2).1
 
-  long : length (take c.before.before.before.first.result.length c.before.before.before.before.before.args.text.now) ≡ c.before.before.before.first.result.length
-  long = length-take-le _ _ (omega (arith, some-passed, c.before.before.before.before.before.requires.2))
+  long : length (take c.first-piece.result.length c.args.text.now) ≡ c.first-piece.result.length
+  long = length-take-le _ _ (omega (arith, some_passed, c.requires.2))
 
-  no_line : is c.before.before.before.first.result.token T.Newline ≡ false
+  no_line : is c.first-piece.result.token T.Newline ≡ false
   unfolding code
-  no_line = not_code c.before.before.before.first.result.token T.Newline (λ e. c.before.if1.false (c.before.before.code.ensures ∙ e))
--}
+  no_line = not_code c.first-piece.result.token T.Newline (λ e. c.if-code-eq-NEWLINE.false (c.code.ensures ∙ e))
 
 pub returns-then-code-eq-NEWLINE : goal.returns-then-code-eq-NEWLINE
 unfolding code
@@ -38,19 +34,17 @@ returns-then-code-eq-NEWLINE c =
 
 
 pub slice_bounds-pass_lexeme-end : goal.slice_bounds-pass_lexeme-end
-slice_bounds-pass_lexeme-end c = sym (long c)
+slice_bounds-pass_lexeme-end c = sym (long (goal.at.slice_bounds-pass_lexeme-end c).Else-code-eq-NEWLINE)
 
 
 pub pass_lexeme-requires : goal.pass_lexeme-requires
 pass_lexeme-requires c =
-    let a = c.before.requires in
-    (a.3, omega (arith, long c, some-passed c, a.4), no_line c)
-
+    let e = (goal.at.pass_lexeme-requires c).Else-code-eq-NEWLINE in
+    (c.requires.3, omega (arith, long e, some_passed e, c.requires.4), no_line e)
 
 pub returns : goal.returns
 unfolding step
 returns c =
-    let t = c.before.args.text.now in
-    let f = c.first.ensures in
-    c.pass_lexeme.ensures ∙ pass_behind _ _ _ (drop c.first.result.length t) c.before.args.from (no_line (goal.at.returns c).Else-code-eq-NEWLINE) ∙ rw (f.0, f.1)
-
+    let t = c.args.text.now in
+    let f = c.first-piece.ensures in
+    c.pass_lexeme.ensures ∙ pass_behind _ _ _ (drop c.first-piece.result.length t) c.args.from (no_line (goal.at.returns c).Else-code-eq-NEWLINE) ∙ rw (f.0, f.1)

@@ -1,0 +1,22 @@
+-- `parse_definitions::parse_service_head` meets its contract.
+use mathlib.Core.Path.{◌∙◌}
+use Rattle.steps.proofs.Chain.{last, off, on}
+use Rattle.parse_definitions.proofs.Forms.{service_head_is}
+use borrow.Author.Rules.{rules}
+use Rattle.parse_definitions.proofs.parse_service_head.Goals as goal
+
+pub shape_of-rest-in_default : goal.shape_of-rest-in_default
+shape_of-rest-in_default c = c.parse_name-name.auto.rest
+
+
+pub returns-in_default : goal.returns-in_default
+returns-in_default c = λ u. off _ _ _ (service_head_is _ _ _ _ _ _) _ _ _ _ _ (c.parse_name-name.ensures u) c.in_default.is _ _
+
+
+pub shape_of-rest : goal.shape_of-rest
+shape_of-rest c = c.parse_extends.auto.rest ∙ c.parse_name-name.auto.rest
+
+
+pub returns : goal.returns
+returns c = λ u. last _ _ _ _ _ (on _ _ _ (service_head_is _ _ _ _ _ _) _ _ _ _ (c.parse_name-name.ensures u) c.in-On.is) (c.parse_extends.ensures u)
+

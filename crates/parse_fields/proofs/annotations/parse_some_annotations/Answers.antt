@@ -1,0 +1,24 @@
+-- `parse_fields::annotations::parse_some_annotations` meets its contract.
+use mathlib.Core.Path.{ap, ◌∙◌}
+use Rattle.steps.proofs.Chain.{given, node, off, on, yes}
+use Rattle.parse_fields.proofs.Forms.{annotations_is}
+use Rattle.steps.specs.Into.{advanced}
+use Rattle.parse_fields.specs.Into.{annotation_list_in}
+use borrow.Author.Rules.{rules}
+use Rattle.parse_fields.proofs.annotations.parse_some_annotations.Goals as goal
+
+pub shape_of-rest-in_default : goal.shape_of-rest-in_default
+shape_of-rest-in_default c = c.parse_annotation_list-read.auto.rest
+
+
+pub returns-in_default : goal.returns-in_default
+returns-in_default c = λ u. off _ _ _ (yes _ _ _ _ _ (annotations_is c.args.text.now c.args.parent.base c.args.parent.node c.args.st c.args.rest.now u) c.requires.1) _ _ _ _ _ (given (annotation_list_in _ _ _) _ _ _ _ _ (c.advance-inside.ensures ∙ ap (advanced _) c.open-opened.ensures) (c.parse_annotation_list-read.ensures u)) c.in_default.is _ _
+
+
+pub shape_of-rest : goal.shape_of-rest
+shape_of-rest c = c.put_node.auto.rest ∙ c.parse_annotation_list-read.auto.rest
+
+
+pub returns : goal.returns
+returns c = λ u. node _ _ _ _ _ _ _ _ _ _ _ (on _ _ _ (yes _ _ _ _ _ (annotations_is c.args.text.now c.args.parent.base c.args.parent.node c.args.st c.args.rest.now u) c.requires.1) _ _ _ _ (given (annotation_list_in _ _ _) _ _ _ _ _ (c.advance-inside.ensures ∙ ap (advanced _) c.open-opened.ensures) (c.parse_annotation_list-read.ensures u)) c.in-On.is) c.put_node.ensures
+
