@@ -1,5 +1,5 @@
 // Prints the text on standard input, at the indent that the argument gives, 2 if there is none; a refusal is a line on standard error.
-// There is no exit status in Rattle: what is on standard error tells that nothing was printed, or not all.
+// A refusal ends with status 0 too: what is on standard error tells that nothing was printed, or not all.
 #![tactic(auto)]
 
 mod refusal;
