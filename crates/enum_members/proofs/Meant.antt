@@ -259,7 +259,7 @@ module _ (text nodes : List ℕ) where
       (member_means l c y v b s (number z v) x list (omega arith)
       (λ w. then (each_in (child_in text nodes) (roots (each member_tree ms (annotations_tree a bare)) (n + size (member_tree (member l c y v b)))) w) k)
       (of_members (suc_ℤ (number z v)) ms others)
-      (λ w u f i. members_mean ms a (beside s) (tail o) (suc_ℤ (number z v)) w u f (omega arith) end (omega arith) k others g)
+      (λ w u f i. members_mean {n = n + size (member_tree (member l c y v b))} ms a (beside s) (tail o) (suc_ℤ (number z v)) w u f (omega arith) end (omega arith) k others g)
       (i32 (number z v)))
 
   name_size : (y : Lexeme) → size (name_tree y) ≡ 1
@@ -296,7 +296,7 @@ module _ (text nodes : List ℕ) where
       (members_mean ms a (name_beside y i) (tail (within_node o)) (pos 0) w list zero_fits (omega arith) (n + suc (1 + sizes (each member_tree ms (annotations_tree a bare)))) (omega arith) k others
       (λ u l e. g u l (omega (arith, name_size y))))
 
-  roots_mean : {n p : ℕ} (ds : List Definition) → Shown nodes n p (each definition_tree ds bare) → Spelled text (each definition_tree ds bare) →
+  roots_mean : (ds : List Definition) {n p : ℕ} → Shown nodes n p (each definition_tree ds bare) → Spelled text (each definition_tree ds bare) →
       (x : Walk) (list : List ℤ) → x.members ≤ n →
       finished (each_in (definition_in text nodes) (roots (each definition_tree ds bare) n) (at x list)) ≡ ended (member_numbers ds) x.members list
   unfolding each definition_tree single both roots each_in then member_numbers size structure_kind
@@ -306,7 +306,7 @@ module _ (text nodes : List ℕ) where
   roots_mean (Namespace l c z y ∷ ds) s o x list h = rw (root_passed s refl x list) (roots_mean ds (beside s) (tail o) x list (omega arith))
   roots_mean (Const l c t y v ∷ ds) s o x list h = rw (root_passed s refl x list) (roots_mean ds (beside s) (tail o) x list (omega arith))
   roots_mean (Typedef l c t y ∷ ds) s o x list h = rw (root_passed s refl x list) (roots_mean ds (beside s) (tail o) x list (omega arith))
-  roots_mean {n = n} (Enum l c y ms a ∷ ds) s o x list h =
+  roots_mean (Enum l c y ms a ∷ ds) {n = n} s o x list h =
       enum_means l c y ms a s o x list h (each_in (definition_in text nodes) (roots (each definition_tree ds bare) (n + size (definition_tree (Enum l c y ms a)))))
       (member_numbers ds) (λ w u i. roots_mean ds (beside s) (tail o) w u i)
   roots_mean (structure Struct l c y fs a ∷ ds) s o x list h = rw (root_passed s refl x list) (roots_mean ds (beside s) (tail o) x list (omega arith))
