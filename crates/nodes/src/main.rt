@@ -3,51 +3,52 @@
 
 ghost use Rattle.std.specs.Prelude.{◌+◌, ◌≤◌, ◌<◌, length};
 
-use libc::{STDIN_FILENO, STDOUT_FILENO};
 use parser::Answer;
+use std::io;
+use std::io::Stdout;
 
 // Writes a blank and a number.
-fn write_next(number: u32) {
-    io::write_all(STDOUT_FILENO, b" ");
-    io::print_decimal(STDOUT_FILENO, number as u64);
+fn write_next(out: Stdout, number: u32) -> io::Result<()> {
+    print!(out; " {number}")
 }
 
 // Writes the `width` numbers of the record that starts at `at`.
-fn write_record(table: &[u32], width: usize, at: usize)
+fn write_record(out: Stdout, table: &[u32], width: usize, at: usize) -> io::Result<()>
     requires { (0 < width) × (at + width ≤ length table.now) }
 {
-    io::print_decimal(STDOUT_FILENO, table[at] as u64);
+    print!(out; "{}", table[at])?;
     for i in 1..width {
-        write_next(table[at + i]);
+        write_next(out, table[at + i])?;
     }
-    io::write_all(STDOUT_FILENO, b"\n");
+    println!(out)
 }
 
 // Writes the first `count` records of `width` numbers, those that the table holds.
-fn write_records(table: &[u32], width: usize, count: u32)
+fn write_records(out: Stdout, table: &[u32], width: usize, count: u32) -> io::Result<()>
     requires { 0 < width }
 {
     let mut at: usize = 0;
     for _ in 0..count {
         if table.len() - at < width {
-            return;
+            return Ok(());
         }
-        write_record(table, width, at);
+        write_record(out, table, width, at)?;
         at += width;
     }
+    Ok(())
 }
 
 // Writes a refusal.
-fn write_refusal(number: u32, place: u32, length: u32) {
-    io::write_all(STDOUT_FILENO, b"R");
-    write_next(number);
-    write_next(place);
-    write_next(length);
-    io::write_all(STDOUT_FILENO, b"\n");
+fn write_refusal(out: Stdout, number: u32, place: u32, length: u32) -> io::Result<()> {
+    print!(out; "R")?;
+    write_next(out, number)?;
+    write_next(out, place)?;
+    write_next(out, length)?;
+    println!(out)
 }
 
 // Reads a text and writes what is answered.
-fn write_reading(text: &[u8]) {
+fn write_reading(out: Stdout, text: &[u8]) -> io::Result<()> {
     let mut nodes: [u32; 9000] = [0; 9000];
     let mut comments: [u32; 4500] = [0; 4500];
     match reader::read(text, &mut nodes, &mut comments) {
@@ -55,24 +56,22 @@ fn write_reading(text: &[u8]) {
             number,
             place,
             length,
-        } => {
-            write_refusal(number, place, length);
-        }
+        } => { write_refusal(out, number, place, length) }
         Answer::Accepted {
             nodes: n,
             comments: c,
         } => {
-            io::print_decimal(STDOUT_FILENO, n as u64);
-            write_next(c);
-            io::write_all(STDOUT_FILENO, b"\n");
-            write_records(&nodes, ast::NODE_WIDTH, n);
-            write_records(&comments, ast::COMMENT_WIDTH, c);
+            print!(out; "{n}")?;
+            write_next(out, c)?;
+            println!(out)?;
+            write_records(out, &nodes, ast::NODE_WIDTH, n)?;
+            write_records(out, &comments, ast::COMMENT_WIDTH, c)
         }
     }
 }
 
-fn main() {
+fn main(rt: HostRuntime) -> io::Result<()> {
     let mut text: [u8; 8192] = [0; 8192];
-    let n = io::read_full(STDIN_FILENO, &mut text);
-    write_reading(&text[..n]);
+    let n = input::read_full(rt.stdin(), &mut text)?;
+    write_reading(rt.stdout(), &text[..n])
 }

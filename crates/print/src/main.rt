@@ -1,12 +1,14 @@
 // Prints the text on standard input, at the indent that the argument gives, 2 if there is none; a refusal is a line on standard error.
-// There is no exit status in Rattle: what is on standard error tells that nothing was printed, or not all.
+// A refusal ends with status 0 too: what is on standard error tells that nothing was printed, or not all.
 #![tactic(auto)]
 
 mod refusal;
 
 ghost use Rattle.std.specs.Prelude.{◌≤◌};
 
-use libc::{STDERR_FILENO, STDIN_FILENO, STDOUT_FILENO};
+use std::env::{Env, FillError};
+use std::io;
+use std::io::{Read, Stderr, Stdin};
 use writer::Printed;
 
 // One byte more than the longest text.
@@ -62,84 +64,105 @@ fn spelled(word: &[u8]) -> Indent {
     Indent::Spaces(number)
 }
 
-fn read_indent() -> Indent {
-    let count = os::arg_count();
-    if count < 2 {
+// Whether there is an argument so far behind the program's name.
+fn has_argument(rt: &HostRuntime, i: usize) -> bool {
+    let mut word = [0u8; 1];
+    !matches!(rt.arg(i, &mut word), Err(FillError::NotPresent))
+}
+
+fn read_indent(rt: &HostRuntime) -> Indent {
+    if !has_argument(rt, 1) {
         return Indent::Spaces(2);
     }
-    if 2 < count {
+    if has_argument(rt, 2) {
         return Indent::Unclear;
     }
     let mut word = [0u8; 20];
-    let n = os::arg(1, &mut word);
-    spelled(&word[..n])
+    match rt.arg(1, &mut word) {
+        Ok(n) => spelled(&word[..n]),
+        Err(_) => Indent::Unclear,
+    }
 }
 
 // Whether standard input is at its end: a read that fails ends a text too, and part of a text may not pass for it.
-fn is_at_end() -> bool {
+fn is_at_end(mut input: Stdin) -> bool {
     let mut byte = [0u8; 1];
-    libc::read(STDIN_FILENO, &mut byte) == 0
+    matches!(input.read(&mut byte), Ok(0))
 }
 
-fn say(line: &[u8]) {
-    io::write_all(STDERR_FILENO, line);
+fn say(err: Stderr, line: &[u8]) -> io::Result<()> {
+    err.write_all(line)
 }
 
-fn write_print(out: &[u8], bytes: usize) {
+fn write_print(rt: &HostRuntime, out: &[u8], bytes: usize) -> io::Result<()> {
     if out.len() < bytes {
-        return;
+        return Ok(());
     }
-    if !io::write_all(STDOUT_FILENO, &out[..bytes]) {
-        say(b"print: standard output didn't take the whole print\n");
+    if rt.stdout().write_all(&out[..bytes]).is_err() {
+        return say(
+            rt.stderr(),
+            b"print: standard output didn't take the whole print\n",
+        );
     }
+    Ok(())
 }
 
 // Prints with these tables and this output.
-fn print_with(text: &[u8], indent: u32, nodes: &mut [u32], comments: &mut [u32], out: &mut [u8]) {
+fn print_with(
+    rt: &HostRuntime,
+    text: &[u8],
+    indent: u32,
+    nodes: &mut [u32],
+    comments: &mut [u32],
+    out: &mut [u8],
+) -> io::Result<()> {
     match printer::print(text, indent, nodes, comments, out) {
         Printed::Accepted {
             nodes: _,
             comments: _,
             bytes,
-        } => {
-            write_print(out, bytes);
-        }
+        } => { write_print(rt, out, bytes) }
         Printed::Refused {
             number,
             place,
             length: _,
-        } => {
-            refusal::write(number, place::find(text, place));
-        }
+        } => { refusal::write(rt.stderr(), number, place::find(text, place)) }
     }
 }
 
-fn print_text(text: &[u8], indent: u32) {
+fn print_text(rt: &HostRuntime, text: &[u8], indent: u32) -> io::Result<()> {
     let mut nodes: [u32; NODES] = [0; NODES];
     let mut comments: [u32; COMMENTS] = [0; COMMENTS];
     let mut out: [u8; PRINT] = [0; PRINT];
-    print_with(text, indent, &mut nodes, &mut comments, &mut out);
+    print_with(rt, text, indent, &mut nodes, &mut comments, &mut out)
 }
 
-fn print_input(indent: u32) {
+fn print_input(rt: &HostRuntime, indent: u32) -> io::Result<()> {
     let mut text: [u8; TEXT] = [0; TEXT];
-    let n = io::read_full(STDIN_FILENO, &mut text);
+    let input = rt.stdin();
+    let Ok(n) = input::read_full(input, &mut text) else {
+        return say(
+            rt.stderr(),
+            b"print: standard input can't be read to its end\n",
+        );
+    };
     if n < TEXT {
-        if !is_at_end() {
-            say(b"print: standard input can't be read to its end\n");
-            return;
-        }
-    }
-    print_text(&text[..n], indent);
-}
-
-fn main() {
-    match read_indent() {
-        Indent::Spaces(indent) => print_input(indent),
-        Indent::Unclear => {
-            say(
-                b"usage: print [INDENT] <TEXT; INDENT is the spaces a level, 0 to 8, 2 if not given\n",
+        if !is_at_end(input) {
+            return say(
+                rt.stderr(),
+                b"print: standard input can't be read to its end\n",
             );
         }
+    }
+    print_text(rt, &text[..n], indent)
+}
+
+fn main(rt: HostRuntime) -> io::Result<()> {
+    match read_indent(&rt) {
+        Indent::Spaces(indent) => print_input(&rt, indent),
+        Indent::Unclear => say(
+            rt.stderr(),
+            b"usage: print [INDENT] <TEXT; INDENT is the spaces a level, 0 to 8, 2 if not given\n",
+        ),
     }
 }

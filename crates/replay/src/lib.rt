@@ -8,13 +8,14 @@
 #![tactic(auto)]
 
 ghost use Rattle.std.specs.Prelude.{◌≡◌, true, cond, not, ◌+◌, ◌≤◌, length};
-ghost use Rattle.io.specs.Counts.{IsPrefixLen};
+ghost use Rattle.std.specs.Io.{ReadsAtMost};
 ghost use Rattle.replay.specs.List.{number_at, ZeroFrom};
 ghost use Rattle.ast.specs.Largest.{bump};
 ghost use Rattle.lexer.specs.Location.{has_pair};
 ghost use Rattle.replay.specs.Pair.{pair_at};
 
-use libc::{STDIN_FILENO, STDOUT_FILENO};
+use std::io;
+use std::io::{Stdin, Stdout};
 
 // Longer than each text and each print of the list.
 pub const SPACE: usize = 66560;
@@ -77,43 +78,45 @@ pub fn number(list: &[u8], at: usize) -> u32
 }
 
 // The next number of the list.
-pub fn read_number() -> u32 {
+pub fn read_number(input: Stdin) -> io::Result<u32> {
     let mut bytes = [0u8; 4];
-    io::read_full(STDIN_FILENO, &mut bytes);
-    number(&bytes, 0)
+    input::read_full(input, &mut bytes)?;
+    Ok(number(&bytes, 0))
 }
 
 // Reads the next part of the list, its length and its bytes, to the start of a space; answers the length, 0 if the space is too short.
-pub fn read_part(space: &mut [u8]) -> usize
-    ensures { IsPrefixLen result space.new }
+pub fn read_part(input: Stdin, space: &mut [u8]) -> io::Result<usize>
+    ensures { ReadsAtMost result space.new }
 {
-    let length = read_number() as usize;
+    let length = read_number(input)? as usize;
     if space.len() < length {
-        return 0;
+        return Ok(0);
     }
-    io::read_full(STDIN_FILENO, &mut space[..length])
+    input::read_full(input, &mut space[..length])
 }
 
 // Passes over so many bytes of the list.
-fn pass_bytes(count: usize) {
+fn pass_bytes(input: Stdin, count: usize) -> io::Result<()> {
     let mut bytes = [0u8; 4096];
     let mut left = count;
     while 4096 < left {
-        io::read_full(STDIN_FILENO, &mut bytes);
+        input::read_full(input, &mut bytes)?;
         left -= 4096;
     }
-    io::read_full(STDIN_FILENO, &mut bytes[..left]);
+    input::read_full(input, &mut bytes[..left])?;
+    Ok(())
 }
 
 // Passes over the next part of the list.
-pub fn pass_part() {
-    pass_bytes(read_number() as usize);
+pub fn pass_part(input: Stdin) -> io::Result<()> {
+    let length = read_number(input)?;
+    pass_bytes(input, length as usize)
 }
 
 // Passes over the records of so many nodes and of so many comments, numbers of 4 bytes.
-pub fn pass_records(nodes: u32, comments: u32) {
-    pass_bytes(nodes as usize * ast::NODE_WIDTH * 4);
-    pass_bytes(comments as usize * ast::COMMENT_WIDTH * 4);
+pub fn pass_records(input: Stdin, nodes: u32, comments: u32) -> io::Result<()> {
+    pass_bytes(input, nodes as usize * ast::NODE_WIDTH * 4)?;
+    pass_bytes(input, comments as usize * ast::COMMENT_WIDTH * 4)
 }
 
 // Whether a table is 0 from an index on.
@@ -145,6 +148,13 @@ pub fn same_numbers(a: &[u32], b: &[u32]) -> bool
         k += 1;
     }
     true
+}
+
+// Whether two runs of bytes are the same.
+pub fn same_bytes(a: &[u8], b: &[u8]) -> bool
+    ensures { (result ≡ true → a.now ≡ b.now) × (a.now ≡ b.now → result ≡ true) }
+{
+    a == b
 }
 
 // Whether `\r` stands at an offset, and `\n` directly behind it.
@@ -180,20 +190,20 @@ pub fn has_pair(text: &[u8]) -> bool
 }
 
 // Writes that a text differs; the first is 0.
-pub fn write_differing(number: u32) {
-    io::write_all(STDOUT_FILENO, b"text ");
-    write_count(number, b" differs\n");
+pub fn write_differing(out: Stdout, number: u32) -> io::Result<()> {
+    print!(out; "text ")?;
+    write_count(out, number, b" differs\n")
 }
 
 // Writes a number and what it counts.
-pub fn write_count(number: u32, what: &[u8]) {
-    io::print_decimal(STDOUT_FILENO, number as u64);
-    io::write_all(STDOUT_FILENO, what);
+pub fn write_count(out: Stdout, number: u32, what: &[u8]) -> io::Result<()> {
+    print!(out; "{number}")?;
+    out.write_all(what)
 }
 
 // Writes what was found in so many texts.
-pub fn write_tally(texts: u32, tally: Tally) {
-    write_count(texts, b" texts, ");
-    write_count(tally.differing, b" differ; ");
-    write_count(tally.paired, b" with CR LF\n");
+pub fn write_tally(out: Stdout, texts: u32, tally: Tally) -> io::Result<()> {
+    write_count(out, texts, b" texts, ")?;
+    write_count(out, tally.differing, b" differ; ")?;
+    write_count(out, tally.paired, b" with CR LF\n")
 }

@@ -8,6 +8,8 @@
 ghost use Rattle.std.specs.Prelude.{◌+◌, ◌≤◌, length};
 
 use replay::{COMMENTS, NODES, SPACE};
+use std::io;
+use std::io::{Stdin, Stdout};
 use writer::Printed;
 
 // How many requests are made of a text.
@@ -59,19 +61,19 @@ struct Tally {
 }
 
 // Passes over what the list has for a text.
-fn pass_answer() {
-    let number = replay::read_number();
-    replay::read_number();
-    replay::read_number();
+fn pass_answer(input: Stdin) -> io::Result<()> {
+    let number = replay::read_number(input)?;
+    replay::read_number(input)?;
+    replay::read_number(input)?;
     if number != 0 {
-        return;
+        return Ok(());
     }
-    let nodes = replay::read_number();
-    let comments = replay::read_number();
-    replay::pass_records(nodes, comments);
-    replay::pass_part();
-    replay::pass_part();
-    replay::pass_part();
+    let nodes = replay::read_number(input)?;
+    let comments = replay::read_number(input)?;
+    replay::pass_records(input, nodes, comments)?;
+    replay::pass_part(input)?;
+    replay::pass_part(input)?;
+    replay::pass_part(input)
 }
 
 fn less(n: u32) -> u32 {
@@ -412,7 +414,7 @@ fn stays(space: &mut [u8], other: &[u8], length: usize, number: u32, requests: &
     if again != length {
         return false;
     }
-    check::same(space, other)
+    replay::same_bytes(space, other)
 }
 
 // Whether two pairs of tables and two outputs are the same.
@@ -430,7 +432,7 @@ fn same_lent(
     if !replay::same_numbers(comments, other_comments) {
         return false;
     }
-    check::same(out, other_out)
+    replay::same_bytes(out, other_out)
 }
 
 // Makes the calls of a text so long in two spaces, by `file::run` and one by one, and compares.
@@ -476,7 +478,7 @@ fn compare_in(
     steps
         .compared(same)
         .compared(length == steps.length)
-        .compared(check::same(space, spare))
+        .compared(replay::same_bytes(space, spare))
 }
 
 // Makes a list of calls of a text, compares, and makes them again if a printing was kept: then the file must stay.
@@ -524,10 +526,10 @@ fn compare_text(text: &[u8], number: u32, tally: Tally) -> Tally {
 }
 
 // Makes the calls of the next text of the list.
-fn compare_next(space: &mut [u8], number: u32, tally: Tally) -> Tally {
-    let length = replay::read_part(space);
-    pass_answer();
-    compare_text(&space[..length], number, tally)
+fn compare_next(input: Stdin, space: &mut [u8], number: u32, tally: Tally) -> io::Result<Tally> {
+    let length = replay::read_part(input, space)?;
+    pass_answer(input)?;
+    Ok(compare_text(&space[..length], number, tally))
 }
 
 // Whether more differs, or was altered, than before.
@@ -539,26 +541,28 @@ fn has_more(now: Tally, before: Tally) -> bool {
 }
 
 // Compares all texts.
-fn compare(texts: u32) -> Tally {
+fn compare(input: Stdin, out: Stdout, texts: u32) -> io::Result<Tally> {
     let mut space: [u8; SPACE] = [0; SPACE];
     let mut tally = Tally::new();
     for i in 0..texts {
-        let now = compare_next(&mut space, i, tally);
+        let now = compare_next(input, &mut space, i, tally)?;
         if has_more(now, tally) {
-            replay::write_differing(i);
+            replay::write_differing(out, i)?;
         }
         tally = now;
     }
-    tally
+    Ok(tally)
 }
 
-fn main() {
-    let texts = replay::read_number();
-    let tally = compare(texts);
-    replay::write_count(texts, b" texts, ");
-    replay::write_count(tally.calls, b" calls; printings: ");
-    replay::write_count(tally.accepted, b" accepted, ");
-    replay::write_count(tally.refused, b" refused; ");
-    replay::write_count(tally.altered, b" files altered after a print, ");
-    replay::write_count(tally.differing, b" differences\n");
+fn main(rt: HostRuntime) -> io::Result<()> {
+    let input = rt.stdin();
+    let out = rt.stdout();
+    let texts = replay::read_number(input)?;
+    let tally = compare(input, out, texts)?;
+    replay::write_count(out, texts, b" texts, ")?;
+    replay::write_count(out, tally.calls, b" calls; printings: ")?;
+    replay::write_count(out, tally.accepted, b" accepted, ")?;
+    replay::write_count(out, tally.refused, b" refused; ")?;
+    replay::write_count(out, tally.altered, b" files altered after a print, ")?;
+    replay::write_count(out, tally.differing, b" differences\n")
 }

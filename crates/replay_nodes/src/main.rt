@@ -9,6 +9,8 @@ ghost use Rattle.std.specs.Prelude.{◌<◌};
 
 use parser::Answer;
 use replay::{COMMENTS, NODES, SPACE, Tally};
+use std::io;
+use std::io::{Stdin, Stdout};
 
 // Where the lines stand in a record, each behind the index.
 const START_LINE: usize = ast::column::START + 1;
@@ -40,50 +42,62 @@ fn same_number(table: &[u32], width: usize, i: usize, number: u32, paired: bool)
 }
 
 // Whether the next `end` numbers of the list, records of `width` each, stand in the table, and 0 past them.
-fn same_records(table: &[u32], width: usize, end: usize, paired: bool) -> bool
+fn same_records(
+    input: Stdin,
+    table: &[u32],
+    width: usize,
+    end: usize,
+    paired: bool,
+) -> io::Result<bool>
     requires { 0 < width }
 {
     let mut same = true;
     let mut i: usize = 0;
     while i < end {
-        let number = replay::read_number();
+        let number = replay::read_number(input)?;
         if !same_number(table, width, i, number, paired) {
             same = false;
         }
         i += 1;
     }
     if same {
-        replay::zero_from(table, end)
+        Ok(replay::zero_from(table, end))
     } else {
-        false
+        Ok(false)
     }
 }
 
 // Whether the answer is the list's refusal, and the tables are all 0.
-fn same_refusal(answer: Answer, number: u32, nodes: &[u32], comments: &[u32]) -> bool {
-    let place = replay::read_number();
-    let length = replay::read_number();
+fn same_refusal(
+    input: Stdin,
+    answer: Answer,
+    number: u32,
+    nodes: &[u32],
+    comments: &[u32],
+) -> io::Result<bool> {
+    let place = replay::read_number(input)?;
+    let length = replay::read_number(input)?;
     let Answer::Refused {
         number: n,
         place: p,
         length: l,
     } = answer
     else {
-        return false;
+        return Ok(false);
     };
     if n != number {
-        return false;
+        return Ok(false);
     }
     if p != place {
-        return false;
+        return Ok(false);
     }
     if l != length {
-        return false;
+        return Ok(false);
     }
     if !replay::zero_from(nodes, 0) {
-        return false;
+        return Ok(false);
     }
-    replay::zero_from(comments, 0)
+    Ok(replay::zero_from(comments, 0))
 }
 
 // Whether the answer has the counts.
@@ -102,26 +116,38 @@ fn same_counts(answer: Answer, nodes: u32, comments: u32) -> bool {
 }
 
 // Whether the answer has the list's counts and records.
-fn same_reading(answer: Answer, nodes: &[u32], comments: &[u32], paired: bool) -> bool {
-    replay::read_number();
-    replay::read_number();
-    let node_count = replay::read_number();
-    let comment_count = replay::read_number();
+fn same_reading(
+    input: Stdin,
+    answer: Answer,
+    nodes: &[u32],
+    comments: &[u32],
+    paired: bool,
+) -> io::Result<bool> {
+    replay::read_number(input)?;
+    replay::read_number(input)?;
+    let node_count = replay::read_number(input)?;
+    let comment_count = replay::read_number(input)?;
     let counts = same_counts(answer, node_count, comment_count);
     let node_numbers = node_count as usize * ast::NODE_WIDTH;
     let comment_numbers = comment_count as usize * ast::COMMENT_WIDTH;
-    let node_records = same_records(nodes, ast::NODE_WIDTH, node_numbers, paired);
-    let comment_records = same_records(comments, ast::COMMENT_WIDTH, comment_numbers, paired);
-    replay::pass_part();
-    replay::pass_part();
-    replay::pass_part();
+    let node_records = same_records(input, nodes, ast::NODE_WIDTH, node_numbers, paired)?;
+    let comment_records = same_records(
+        input,
+        comments,
+        ast::COMMENT_WIDTH,
+        comment_numbers,
+        paired,
+    )?;
+    replay::pass_part(input)?;
+    replay::pass_part(input)?;
+    replay::pass_part(input)?;
     if !counts {
-        return false;
+        return Ok(false);
     }
     if !node_records {
-        return false;
+        return Ok(false);
     }
-    comment_records
+    Ok(comment_records)
 }
 
 // A byte of a text, a space for `\r` directly before `\n`; 0 behind the text.
@@ -174,56 +200,65 @@ fn same_spaced(text: &[u8], nodes: &[u32], comments: &[u32]) -> bool {
 }
 
 // Whether the answer and the tables are as the list has them.
-fn same_answer(answer: Answer, nodes: &[u32], comments: &[u32], paired: bool) -> bool {
-    let number = replay::read_number();
+fn same_answer(
+    input: Stdin,
+    answer: Answer,
+    nodes: &[u32],
+    comments: &[u32],
+    paired: bool,
+) -> io::Result<bool> {
+    let number = replay::read_number(input)?;
     if number != 0 {
-        return same_refusal(answer, number, nodes, comments);
+        return same_refusal(input, answer, number, nodes, comments);
     }
-    same_reading(answer, nodes, comments, paired)
+    same_reading(input, answer, nodes, comments, paired)
 }
 
 // Reads a text, and tells whether all is as the list has it, and the lines as they must be.
-fn same_text(text: &[u8], paired: bool) -> bool {
+fn same_text(input: Stdin, text: &[u8], paired: bool) -> io::Result<bool> {
     let mut nodes: [u32; NODES] = [7; NODES];
     let mut comments: [u32; COMMENTS] = [7; COMMENTS];
     let answer = reader::read(text, &mut nodes, &mut comments);
-    if !same_answer(answer, &nodes, &comments, paired) {
-        return false;
+    if !same_answer(input, answer, &nodes, &comments, paired)? {
+        return Ok(false);
     }
     if paired {
-        return same_spaced(text, &nodes, &comments);
+        return Ok(same_spaced(text, &nodes, &comments));
     }
-    true
+    Ok(true)
 }
 
 // Compares a text.
-fn compare_text(text: &[u8], tally: Tally) -> Tally {
+fn compare_text(input: Stdin, text: &[u8], tally: Tally) -> io::Result<Tally> {
     let paired = replay::has_pair(text);
-    tally.with(same_text(text, paired), paired)
+    let same = same_text(input, text, paired)?;
+    Ok(tally.with(same, paired))
 }
 
 // Compares the next text of the list.
-fn compare_next(space: &mut [u8], tally: Tally) -> Tally {
-    let length = replay::read_part(space);
-    compare_text(&space[..length], tally)
+fn compare_next(input: Stdin, space: &mut [u8], tally: Tally) -> io::Result<Tally> {
+    let length = replay::read_part(input, space)?;
+    compare_text(input, &space[..length], tally)
 }
 
 // Compares all texts.
-fn compare(texts: u32) -> Tally {
+fn compare(input: Stdin, out: Stdout, texts: u32) -> io::Result<Tally> {
     let mut space: [u8; SPACE] = [0; SPACE];
     let mut tally = Tally::new();
     for i in 0..texts {
-        let now = compare_next(&mut space, tally);
+        let now = compare_next(input, &mut space, tally)?;
         if now.differing != tally.differing {
-            replay::write_differing(i);
+            replay::write_differing(out, i)?;
         }
         tally = now;
     }
-    tally
+    Ok(tally)
 }
 
-fn main() {
-    let texts = replay::read_number();
-    let tally = compare(texts);
-    replay::write_tally(texts, tally);
+fn main(rt: HostRuntime) -> io::Result<()> {
+    let input = rt.stdin();
+    let out = rt.stdout();
+    let texts = replay::read_number(input)?;
+    let tally = compare(input, out, texts)?;
+    replay::write_tally(out, texts, tally)
 }

@@ -6,6 +6,8 @@
 
 use lexer::error;
 use replay::{COMMENTS, NODES, SPACE};
+use std::io;
+use std::io::{Stdin, Stdout};
 use writer::Printed;
 
 // What was printed and compared.
@@ -35,7 +37,7 @@ fn has_print(out: &[u8], print: &[u8]) -> bool {
     if out.len() <= end {
         return false;
     }
-    if !check::same(&out[..end], print) {
+    if !replay::same_bytes(&out[..end], print) {
         return false;
     }
     zero_bytes(out, end)
@@ -113,11 +115,11 @@ fn is_refused(text: &[u8], out: &mut [u8], number: u32, place: u32, length: u32)
 }
 
 // Whether the text is refused as the list has it.
-fn is_refused_alike(text: &[u8], number: u32) -> bool {
-    let place = replay::read_number();
-    let length = replay::read_number();
+fn is_refused_alike(input: Stdin, text: &[u8], number: u32) -> io::Result<bool> {
+    let place = replay::read_number(input)?;
+    let length = replay::read_number(input)?;
     let mut out: [u8; 99] = [7; 99];
-    is_refused(text, &mut out, number, place, length)
+    Ok(is_refused(text, &mut out, number, place, length))
 }
 
 // Whether 27 is given for an output one byte short of the print.
@@ -178,37 +180,38 @@ fn compare_print(text: &[u8], indent: u32, print: &[u8], tally: Tally) -> Tally 
 }
 
 // Compares a text's print with the next of the list.
-fn compare_next_print(text: &[u8], indent: u32, tally: Tally) -> Tally {
+fn compare_next_print(input: Stdin, text: &[u8], indent: u32, tally: Tally) -> io::Result<Tally> {
     let mut space: [u8; SPACE] = [0; SPACE];
-    let length = replay::read_part(&mut space);
-    compare_print(text, indent, &space[..length], tally)
+    let length = replay::read_part(input, &mut space)?;
+    Ok(compare_print(text, indent, &space[..length], tally))
 }
 
 // Compares the three prints of an accepted text.
-fn compare_prints(text: &[u8], tally: Tally) -> Tally {
-    replay::read_number();
-    replay::read_number();
-    let nodes = replay::read_number();
-    let comments = replay::read_number();
-    replay::pass_records(nodes, comments);
-    let first = compare_next_print(text, 0, tally);
-    let second = compare_next_print(text, 2, first);
-    compare_next_print(text, 8, second)
+fn compare_prints(input: Stdin, text: &[u8], tally: Tally) -> io::Result<Tally> {
+    replay::read_number(input)?;
+    replay::read_number(input)?;
+    let nodes = replay::read_number(input)?;
+    let comments = replay::read_number(input)?;
+    replay::pass_records(input, nodes, comments)?;
+    let first = compare_next_print(input, text, 0, tally)?;
+    let second = compare_next_print(input, text, 2, first)?;
+    compare_next_print(input, text, 8, second)
 }
 
 // Compares what is answered for a text.
-fn compare_text(text: &[u8], tally: Tally) -> Tally {
-    let number = replay::read_number();
+fn compare_text(input: Stdin, text: &[u8], tally: Tally) -> io::Result<Tally> {
+    let number = replay::read_number(input)?;
     if number == 0 {
-        return compare_prints(text, tally);
+        return compare_prints(input, text, tally);
     }
-    tally.compared(is_refused_alike(text, number))
+    let same = is_refused_alike(input, text, number)?;
+    Ok(tally.compared(same))
 }
 
 // Compares what is answered for the next text of the list.
-fn compare_next(space: &mut [u8], tally: Tally) -> Tally {
-    let length = replay::read_part(space);
-    compare_text(&space[..length], tally)
+fn compare_next(input: Stdin, space: &mut [u8], tally: Tally) -> io::Result<Tally> {
+    let length = replay::read_part(input, space)?;
+    compare_text(input, &space[..length], tally)
 }
 
 // Whether more differs, or was altered, than before.
@@ -220,25 +223,27 @@ fn has_more(now: Tally, before: Tally) -> bool {
 }
 
 // Compares all texts.
-fn compare(texts: u32) -> Tally {
+fn compare(input: Stdin, out: Stdout, texts: u32) -> io::Result<Tally> {
     let mut space: [u8; SPACE] = [0; SPACE];
     let mut tally = Tally::new();
     for i in 0..texts {
-        let now = compare_next(&mut space, tally);
+        let now = compare_next(input, &mut space, tally)?;
         if has_more(now, tally) {
-            replay::write_differing(i);
+            replay::write_differing(out, i)?;
         }
         tally = now;
     }
-    tally
+    Ok(tally)
 }
 
-fn main() {
-    let texts = replay::read_number();
-    let tally = compare(texts);
-    replay::write_count(texts, b" texts, ");
-    replay::write_count(tally.prints, b" prints, ");
-    replay::write_count(tally.differing, b" differ; ");
-    replay::write_count(tally.again, b" printed again, ");
-    replay::write_count(tally.altered, b" altered\n");
+fn main(rt: HostRuntime) -> io::Result<()> {
+    let input = rt.stdin();
+    let out = rt.stdout();
+    let texts = replay::read_number(input)?;
+    let tally = compare(input, out, texts)?;
+    replay::write_count(out, texts, b" texts, ")?;
+    replay::write_count(out, tally.prints, b" prints, ")?;
+    replay::write_count(out, tally.differing, b" differ; ")?;
+    replay::write_count(out, tally.again, b" printed again, ")?;
+    replay::write_count(out, tally.altered, b" altered\n")
 }

@@ -14,8 +14,9 @@ ghost use Rattle.replay_tokens.specs.Inside.{Inside, Found};
 
 use lexer::Checked;
 use lexer::location::{Lexer, Next, ParserToken, Span};
-use libc::{STDIN_FILENO, STDOUT_FILENO};
 use replay::Tally;
+use std::io;
+use std::io::Stdout;
 
 // The bytes of a token in the list.
 const ROW: usize = 28;
@@ -229,7 +230,7 @@ fn compare_entry(list: &[u8], text: Text, tally: Tally) -> Tally
 }
 
 // Compares all texts.
-fn compare(list: &[u8], texts: u32) -> Outcome
+fn compare(out: Stdout, list: &[u8], texts: u32) -> io::Result<Outcome>
     requires { 4 ≤ length list.now }
 {
     let mut at: usize = 4;
@@ -237,51 +238,51 @@ fn compare(list: &[u8], texts: u32) -> Outcome
     for i in 0..texts {
         let read = text_at(list, at);
         let Read::Text(text) = read else {
-            return Outcome::Short;
+            return Ok(Outcome::Short);
         };
         let now = compare_entry(list, text, tally);
         if now.differing != tally.differing {
-            replay::write_differing(i);
+            replay::write_differing(out, i)?;
         }
         tally = now;
         at = text.next;
     }
     if at < list.len() {
-        return Outcome::Long;
+        return Ok(Outcome::Long);
     }
-    Outcome::Compared(tally)
+    Ok(Outcome::Compared(tally))
 }
 
 // Compares all texts of the list and says what differs.
-fn compare_list(list: &[u8]) {
+fn compare_list(out: Stdout, list: &[u8]) -> io::Result<()> {
     if list.len() < 4 {
-        io::write_all(STDOUT_FILENO, b"the list ends early\n");
-        return;
+        return println!(out; "the list ends early");
     }
     let texts = replay::number(list, 0);
-    let outcome = compare(list, texts);
+    let outcome = compare(out, list, texts)?;
     match outcome {
-        Outcome::Compared(tally) => {
-            replay::write_tally(texts, tally);
-        }
-        Outcome::Short => {
-            io::write_all(STDOUT_FILENO, b"the list ends early\n");
-        }
-        Outcome::Long => {
-            io::write_all(STDOUT_FILENO, b"the list goes on\n");
-        }
+        Outcome::Compared(tally) => replay::write_tally(out, texts, tally),
+        Outcome::Short => println!(out; "the list ends early"),
+        Outcome::Long => println!(out; "the list goes on"),
     }
+}
+
+// So many zeros. At a number that is left open the length is plain, and no proof counts the bytes.
+fn zeros<const N: usize>() -> [u8; N]
+    ensures { N ≡ length result }
+{
+    [0; N]
 }
 
 // A place for the list; of a longer one the end is missing.
 fn space() -> [u8; 524288]
     ensures { 524288 ≡ length result }
 {
-    [0; 524288]
+    zeros()
 }
 
-fn main() {
+fn main(rt: HostRuntime) -> io::Result<()> {
     let mut list = space();
-    let n = io::read_full(STDIN_FILENO, &mut list);
-    compare_list(&list[..n]);
+    let n = input::read_full(rt.stdin(), &mut list)?;
+    compare_list(rt.stdout(), &list[..n])
 }

@@ -5,9 +5,11 @@ ghost use Rattle.std.specs.Prelude.{◌≡◌, ◌+◌, ◌≤◌, length};
 ghost use Rattle.lexer.specs.Limit.{limit};
 ghost use Rattle.token.specs.Tables.{tables};
 
+use itoa::Buffer;
 use lexer::location::{Lexer, Next, ParserToken, Span};
 use lexer::{Checked, error};
-use libc::{STDIN_FILENO, STDOUT_FILENO};
+use std::io;
+use std::io::Stdout;
 
 // Puts a byte at `at`, and answers the place behind it.
 fn put_byte(line: &mut [u8], at: usize, byte: u8) -> usize
@@ -23,14 +25,11 @@ fn put_number(line: &mut [u8], at: usize, number: usize) -> usize
     requires { at + 20 ≤ length line.old }
     ensures { result ≤ at + 20 }
 {
-    let mut digits = [0u8; 20];
-    let n = io::decimal(number as u64, &mut digits);
-    let mut i: usize = 0;
-    while i < n {
-        line[at + i] = digits[i];
-        i += 1;
-    }
-    at + n
+    let mut buffer = Buffer::new();
+    let digits = buffer.format(number).as_bytes();
+    let behind = at + digits.len();
+    line[at..behind].copy_from_slice(digits);
+    behind
 }
 
 // Puts a blank and a number.
@@ -53,15 +52,15 @@ fn put_span(line: &mut [u8], at: usize, span: Span) -> usize
 }
 
 // Ends the line and writes it.
-fn write_line(line: &mut [u8], at: usize)
+fn write_line(out: Stdout, line: &mut [u8], at: usize) -> io::Result<()>
     requires { at + 1 ≤ length line.old }
 {
     let n = put_byte(line, at, b'\n');
-    io::write_all(STDOUT_FILENO, &line[..n]);
+    out.write_all(&line[..n])
 }
 
 // Writes the kind number of a token and where it stands.
-fn write_token(token: ParserToken) {
+fn write_token(out: Stdout, token: ParserToken) -> io::Result<()> {
     let mut space = [0u8; 160];
     let line: &mut [u8] = &mut space;
     let kind = token.token;
@@ -69,50 +68,50 @@ fn write_token(token: ParserToken) {
     let a = put_number(line, 0, kind.code() as usize);
     let b = put_span(line, a, loc.start);
     let c = put_span(line, b, loc.end);
-    write_line(line, c);
+    write_line(out, line, c)
 }
 
 // Writes a refusal: its number, its place and its length, which is 0.
-fn write_refusal(number: u32, place: usize) {
+fn write_refusal(out: Stdout, number: u32, place: usize) -> io::Result<()> {
     let mut space = [0u8; 160];
     let line: &mut [u8] = &mut space;
     let a = put_byte(line, 0, b'R');
     let b = put_next(line, a, number as usize);
     let c = put_next(line, b, place);
     let d = put_next(line, c, 0);
-    write_line(line, d);
+    write_line(out, line, d)
 }
 
 // Writes the tokens of a text.
-fn write_tokens(lut: &[u8; 768], text: &[u8])
+fn write_tokens(out: Stdout, lut: &[u8; 768], text: &[u8]) -> io::Result<()>
     requires { (lut.now ≡ tables) × (length text.now ≤ limit) }
 {
     let mut from = Lexer::new();
     loop {
         let next = lexer::next_token(lut, text, from);
         let Next::On(token, behind) = next else {
-            return;
+            return Ok(());
         };
-        write_token(token);
+        write_token(out, token)?;
         from = behind;
     }
 }
 
 // Writes the tokens of a text, or its refusal.
-fn write_text(text: &[u8]) {
+fn write_text(out: Stdout, text: &[u8]) -> io::Result<()> {
     match lexer::check(text) {
         Checked::Fine => {
             let lut = lexer::table::LUT;
-            write_tokens(&lut, text);
+            write_tokens(out, &lut, text)
         }
-        Checked::TooLong => write_refusal(error::TEXT_TOO_LONG, 0),
-        Checked::IllFormed(at) => write_refusal(error::NOT_UTF8, at),
-        Checked::Unrecognized(at) => write_refusal(error::NO_TOKEN, at),
+        Checked::TooLong => write_refusal(out, error::TEXT_TOO_LONG, 0),
+        Checked::IllFormed(at) => write_refusal(out, error::NOT_UTF8, at),
+        Checked::Unrecognized(at) => write_refusal(out, error::NO_TOKEN, at),
     }
 }
 
-fn main() {
+fn main(rt: HostRuntime) -> io::Result<()> {
     let mut text = [0u8; 65537];
-    let n = io::read_full(STDIN_FILENO, &mut text);
-    write_text(&text[..n]);
+    let n = input::read_full(rt.stdin(), &mut text)?;
+    write_text(rt.stdout(), &text[..n])
 }
