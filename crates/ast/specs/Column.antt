@@ -1,4 +1,4 @@
--- Where its numbers stand in a record, by the papers' order, from 0: `row` and `nodeRow` (Records) lay them so. The kind is the first.
+-- Where its numbers stand in a record, by the papers' order, from 0: `row` and `node_row` (Records) lay them so. The kind is the first.
 use Rattle.std.specs.Prelude.{ℕ}
 
 abbrev pub Parent : ℕ

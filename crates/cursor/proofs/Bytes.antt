@@ -1,6 +1,6 @@
 -- Bytes that are copied into the output, and parts of the text.
 --     number_in, number_past             a number of a record, and one behind the table's end
---     kind_in_law, kind_past                 a node record's kind, and none behind the last record; parent_in, parent-past: a record's parent
+--     kind_in_law, kind_past                 a node record's kind, and none behind the last record; parent_in, parent_past: a record's parent
 --     copy_step, copy_done               a copy, byte by byte
 --     wipe_step, wipe_done               bytes that become 0, one by one
 --     put_in, put_past, put_over         bytes that the output holds, and bytes that it does not

@@ -1,7 +1,7 @@
 -- A function of the printer's code, call by call: Z is what the whole is, and each law takes one call more.
 --     kept      a call behind which the function goes on
 --     last      the last call, whose cursor is returned; ends: the cursor that is returned as it is
---     yes, no   a test of two numbers for equality; less, more: for their order; yes_by, no-by: of what a call answered
+--     yes, no   a test of two numbers for equality; less, more: for their order; yes_by, no_by: of what a call answered
 --     about     the number of a test, by the call that answered it
 use mathlib.Core.Path.{◌≡◌, sym, ap, ◌∙◌}
 use mathlib.Core.Bool.{Bool, true, false, cond}

@@ -1,4 +1,4 @@
--- DEMAND 3 holds: `demand-3` proves the record of specs/Demand.
+-- DEMAND 3 holds: `demand_3` proves the record of specs/Demand.
 --     print_fixed    the print of an accepted text is accepted, has the same definitions, and is its own print
 --     print_alike    two texts print alike exactly when their definitions agree
 --     demand_3       all of it, for every text, indent and list of calls

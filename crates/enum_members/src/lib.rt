@@ -214,7 +214,7 @@ fn finish(turn: Turn, list: &mut [i32]) -> Numbered
     }
 }
 
-// Numbers the members of every enum of a text, from its node table: so many records. On any table it walks as `definitionsIn` says;
+// Numbers the members of every enum of a text, from its node table: so many records. On any table it walks as `definitions_in` says;
 // on the table of a text's definitions it answers with their numbers.
 pub fn number_members(text: &[u8], nodes: &[u32], count: u32, list: &mut [i32]) -> Numbered
     ensures walks { told result list.new ≡ finished (definitions_in text.now nodes.now count list.old) }

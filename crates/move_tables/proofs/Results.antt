@@ -1,6 +1,6 @@
 -- What the code's steps make, said of a table's records.
 --     parents_are    the parents by number are those of the records
---     tenth_is       the walk over `lowerBad` finds the first bad tenth number
+--     tenth_is       the walk over `lower_bad` finds the first bad tenth number
 --     narrow_is      the copy of a table of ten numbers is its records narrowed
 --     widen_is       the copy of a table of nine, with the tenth numbers that the walk writes, is its records widened
 use mathlib.Core.Path.{◌≡◌, refl, sym, ap, ◌∙◌}
@@ -95,7 +95,7 @@ module _ (t : List ℕ) (count : ℕ) (few : count ≤ most_records) where
       by true h q = q (onward (eqb-true _ _ h))
       by false h q = none_yet (eqb-false _ _ h)
 
-  -- ---- the walk over `lowerBad`
+  -- ---- the walk over `lower_bad`
 
   abbrev Done : ℕ → ℕ → Type 0
   Done a bad = a < bad → Fine a

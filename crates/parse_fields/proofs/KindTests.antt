@@ -1,4 +1,4 @@
--- `name-test`: the code's test of a kind's number is the definitions' list of the kinds that name a field, by a test over all 52.
+-- `name_test`: the code's test of a kind's number is the definitions' list of the kinds that name a field, by a test over all 52.
 use mathlib.Core.Path.{refl}
 use Rattle.token.specs.Code.{code, is, among}
 use Rattle.parser.specs.Definitions.{field_names}

@@ -1,7 +1,7 @@
 -- The steps accept exactly what the IDL's productions derive, within d containers.
--- type_derives, value-derives: a run that derives a tree within d is read as that tree, and the rest is left (a value: of 65536 tokens at most, for the loop's count).
--- type_derived, value-derived: what is read is derived by such a run, and s is the state behind it.
--- types_exactly, values-exactly: both, as one statement each.
+-- type_derives, value_derives: a run that derives a tree within d is read as that tree, and the rest is left (a value: of 65536 tokens at most, for the loop's count).
+-- type_derived, value_derived: what is read is derived by such a run, and s is the state behind it.
+-- types_exactly, values_exactly: both, as one statement each.
 use mathlib.Core.Path.{◌≡◌, refl}
 use mathlib.Core.Bool.{Bool, true, false, cond, false≢true}
 use mathlib.Core.List.{List, [], ◌∷◌}

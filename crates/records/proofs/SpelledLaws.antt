@@ -1,5 +1,5 @@
 -- Where the lexemes of definitions stand in a text, their trees are spelled in it.
---     forest_spelled    so of every accepted reading: `document-reads` of parser/proofs/Walk has the premise
+--     forest_spelled    so of every accepted reading: `document_reads` of parser/proofs/Walk has the premise
 use mathlib.Core.Path.{◌≡◌, refl, sym, ◌∙◌}
 use mathlib.Core.Bool.{false, cond, false≢true}
 use mathlib.Core.List.{List, []}

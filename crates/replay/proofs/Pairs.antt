@@ -1,5 +1,5 @@
 -- CR LF in a text, one offset after the other.
---     pair_past    none behind the end; pair-other: none at another byte; pair-cut: none at a `\r` that ends the text
+--     pair_past    none behind the end; pair_other: none at another byte; pair_cut: none at a `\r` that ends the text
 --     pair_next    at a `\r` the next byte decides
 --     pair_here    one at an offset
 --     pair_on      none there: what stands behind it decides

@@ -5,7 +5,7 @@
 --     falls_rests, fall_rest, rest_fall, rest_rest       of one behind another
 --     after_w, cond_w, cond_known, weak_w     through a call and what follows it, and a test
 --     opened_w, advanced_w        behind a node that is begun, and behind the token ahead
---     rested, fell        the same by the call that returned the state, or answered; quiet_left, still-left: by its contract
+--     rested, fell        the same by the call that returned the state, or answered; quiet_left, still_left: by its contract
 --     passed_is, comments_is      a skip is its first token, and then a skip
 use mathlib.Core.Path.{◌≡◌, refl, sym, ap, ◌∙◌}
 use mathlib.Core.Bool.{Bool, true, false, cond, false≢true}

@@ -1,4 +1,4 @@
--- Rules compared by a test that antt computes: `rules-eq`, rules that pass it are the same.
+-- Rules compared by a test that antt computes: `rules_eq`, rules that pass it are the same.
 use mathlib.Core.Path.{◌≡◌, refl, sym, ap, ap₂, ◌∙◌}
 use mathlib.Core.Bool.{Bool, true, false, cond}
 use mathlib.Core.List.{List, [], ◌∷◌}

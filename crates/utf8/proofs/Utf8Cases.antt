@@ -5,7 +5,7 @@ use mathlib.Core.Option.{Option, some}
 use Prim.Native.Nat.{ℕ}
 use Rattle.utf8.specs.Utf8.{tail, sequences, begins, width, sequence, ill_from, ill_formed, WellFormed}
 
--- `unfolding on` lets `illFormed` compute
+-- `unfolding on` lets `ill_formed` compute
 on : List ℕ → Option ℕ
 unfolding tail sequences begins width sequence ill_from ill_formed
 on w = ill_formed w
