@@ -1,13 +1,11 @@
 -- `scanner::piece_by` meets its contract. The invariant: what is first from here is what was first at the start.
-use mathlib.Core.Path.{◌≡◌, refl, sym, ◌∙◌}
-use Prim.Native.Nat.{◌≤◌, ◌<◌, ◌-◌, ◌+◌}
+use mathlib.Core.Path.{◌≡◌, sym, ◌∙◌}
+use Prim.Native.Nat.{◌≤◌, ◌<◌, ◌+◌}
 use native.Mathlib.Omega.{arith}
-use borrow.Author.Rules.{rules}
 use lib.ListN.{length, drop, length-drop}
 use Rattle.token.specs.Scan.{scan}
 use Rattle.token.specs.declared.Scan.TheVariants.{Hit}
 use Rattle.lexer.proofs.CutLaws.{hit_fits}
-use Rattle.scanner.specs.Piece.{piece_at}
 use Rattle.scanner.proofs.PieceLaws.{piece_end, piece_miss, piece_hit}
 use Rattle.scanner.proofs.piece_by.Goals as goal
 use Rattle.scanner.proofs.piece_by.Goals.{In-Hit}
@@ -30,31 +28,24 @@ fits c =
 pub scan_token-found-requires : goal.scan_token-found-requires
 scan_token-found-requires c = (c.requires, omega (arith, c.loop-from-test.true))
 
-
 pub returns-in_default : goal.returns-in_default
 returns-in_default c =
     let t = c.args.text.now in
     sym (c.loop-from.invariant ∙ piece_miss t c.loop-from.from c.loop-from-test.true (sym c.scan_token-found.ensures ∙ c.in_default.is))
 
-
 pub overflow_add-end : goal.overflow_add-end
 overflow_add-end c = omega (arith, (fits c).1)
 
-
 pub loop-from-smaller : goal.loop-from-smaller
 loop-from-smaller c = omega (arith, (fits (goal.at.loop-from-smaller c).In-Hit).0, (fits (goal.at.loop-from-smaller c).In-Hit).1)
-
 
 pub loop-from-preserved : goal.loop-from-preserved
 loop-from-preserved c =
     c.loop-from.invariant ∙ rw (← c.skipped.ensures, c.if-skipped.true) at (piece_hit _ c.loop-from.from _ _ (hit (goal.at.loop-from-preserved c).In-Hit))
 
-
 pub returns-else-skipped : goal.returns-else-skipped
 returns-else-skipped c =
     sym (c.loop-from.invariant ∙ rw (← c.skipped.ensures, c.if-skipped.false) at (piece_hit _ c.loop-from.from _ _ (hit (goal.at.returns-else-skipped c).In-Hit)))
 
-
 pub returns : goal.returns
 returns c = sym (c.loop-from.invariant ∙ piece_end _ c.loop-from.from c.loop-from-test.false)
-

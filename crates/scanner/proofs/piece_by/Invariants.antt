@@ -1,20 +1,12 @@
 -- `scanner::piece_by` meets its contract. The invariant: what is first from here is what was first at the start.
-use mathlib.Core.Path.{◌≡◌, refl, sym, ◌∙◌}
-use Prim.Native.Nat.{◌≤◌, ◌<◌, ◌-◌, ◌+◌}
-use native.Mathlib.Omega.{arith}
-use borrow.Author.Rules.{rules}
-use lib.ListN.{length, drop, length-drop}
-use Rattle.token.specs.Scan.{scan}
-use Rattle.token.specs.declared.Scan.TheVariants.{Hit}
-use Rattle.lexer.proofs.CutLaws.{hit_fits}
+use mathlib.Core.Path.{◌≡◌}
+use Prim.Native.Nat.{◌-◌}
+use lib.ListN.{length}
 use Rattle.scanner.specs.Piece.{piece_at}
-use Rattle.scanner.proofs.PieceLaws.{piece_end, piece_miss, piece_hit}
 use Rattle.scanner.proofs.piece_by.Given as goal
 
 abbrev pub invariant-loop-from : goal.invariant-loop-from
 invariant-loop-from l = piece_at l.text l.at ≡ piece_at l.text l.from
 
-
 abbrev pub decreases-loop-from : goal.decreases-loop-from
 decreases-loop-from l = length l.text - l.from
-
