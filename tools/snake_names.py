@@ -1,20 +1,18 @@
 #!/usr/bin/env python3
-"""Brings the project's own definitions and lemmas to snake case, by the table tools/snake_names.tsv (old, a tab, new, and for a lemma whose new name a definition has, a tab and its crate), after the toolchain's port.py.
+"""Brought the project's own definitions and lemmas to snake case, once, after the toolchain's port.py (docs/PORT.md): a second run turns some names again.
 
-usage: tools/snake_names.py [--make]     at the top of a checkout; --make writes the table from the tree instead
+usage: tools/snake_names.py     at the top of a checkout that port.py has turned
 
-Whole words turn: in specs/ and proofs/, in the clauses and ghost items of src/, and in must-fail edits. Behind a dot only a name that some record has as a field turns.
+A row of snake_names.tsv is the old name, a tab, the new one; a third column is a crate, and the row is for lemmas in its proofs/ alone, where a definition takes the old name.
+Whole words turn, in antt, in Rattle and in must-fail edits, but not in antt's strings. In the proof of a function its own answers keep their names, and so does a step behind a dot.
 """
-import collections, os, re, sys
+import collections, os, re
 
 HERE = os.path.dirname(os.path.abspath(__file__))
 TABLE = os.path.join(HERE, "snake_names.tsv")
 WORD = re.compile(r"[^\s(){}.;,@\"«»]+")
-# lemmas that port.py gave the name that a definition of the same file gets here
-LEMMAS = [("first_by", "token"), ("in_rest", "reader"), ("kept_in", "file"), ("leaf_type", "parse_values")]
 QUIET = re.compile(r'"(?:[^"\\\n]|\\.)*"|(?<![^\s(){}.;,@"«»])--[^\n]*')
 DECLARED = re.compile(r"^(\s*)(?:abbrev |unfoldable )*(?:pub )?([^\s(){}.;,@\"«»:]+(?: [^\s(){}.;,@\"«»:]+)*) :(?= |\n)", re.M)
-MODULE = re.compile(r"^\s*(?:pub )?(?:record|data|module) ([^\n]*)$", re.M)
 
 
 def files():
@@ -25,15 +23,6 @@ def files():
                 yield os.path.join(folder, n)
 
 
-def snake(n):
-    n = re.sub(r"(?<=[a-z0-9'])([A-Z])", lambda m: "_" + m.group(1).lower(), n)
-    return n.replace("-", "_")
-
-
-def old_style(n):
-    return re.match(r"[a-z]", n) and (re.search(r"[a-z0-9][A-Z]", n) or re.search(r"[A-Za-z0-9']-[A-Za-z0-9]", n)) and not re.search(r"[^\w'-]", n)
-
-
 def own_lemma_file(p):
     parts = p.split(os.sep)
     return p.endswith(".antt") and (parts[2] == "specs" or (parts[2] == "proofs" and len(parts) == 4))
@@ -41,70 +30,6 @@ def own_lemma_file(p):
 
 def code(t):
     return QUIET.sub(lambda m: " " * len(m.group()), t)
-
-
-def make():
-    declared, imported, words, used = collections.Counter(), set(), set(), collections.defaultdict(set)
-    fields = set()
-    for p in files():
-        with open(p, encoding="utf8") as f:
-            t = f.read()
-        t = code(t) if p.endswith(".antt") else t
-        ws = set(WORD.findall(t))
-        words |= ws
-        for w in ws:
-            used[w].add(p)
-        for m in re.finditer(r"\buse ([^\s{;]+)\.\{([^}]*)\}", t):
-            if not re.match(r"Rattle\.(?!std\b)", m.group(1)):
-                for item in m.group(2).split(","):
-                    imported |= set(item.split())
-        if own_lemma_file(p):
-            for m in DECLARED.finditer(t):
-                for n in m.group(2).split():
-                    if old_style(n):
-                        declared[n] += 1
-                        if m.group(1):
-                            fields.add(n)
-    rows, taken = {}, set(words)
-    camel = sorted(n for n in declared if "-" not in n)
-    for n in camel + sorted(n for n in declared if "-" in n):
-        if n in imported:
-            print("left, a library's:", n)
-            continue
-        new = snake(n)
-        others = {w for w in (words | set(rows.values())) if w == new}
-        if others:
-            # only where a file would see both
-            both = used[n] & used[new] if new in used else set()
-            for o, r in rows.items():
-                if r == new:
-                    both |= used[n] & used[o]
-            if both or new in rows.values() or declared_anywhere(new):
-                new2 = new + "_law" if "-" in n else new
-                print("falls together:", n, new, new2, sorted(both)[:3])
-                new = new2
-        rows[n] = new
-    with open(TABLE, "w", encoding="utf8") as f:
-        for n, r in sorted(rows.items()):
-            f.write(n + "\t" + r + "\n")
-        for n, crate in LEMMAS:
-            f.write(n + "\t" + n + "_law\t" + crate + "\n")
-    print(len(rows), "rows")
-
-
-DECL = None
-
-
-def declared_anywhere(n):
-    global DECL
-    if DECL is None:
-        DECL = set()
-        for p in files():
-            if own_lemma_file(p):
-                with open(p, encoding="utf8") as f:
-                    for m in DECLARED.finditer(code(f.read())):
-                        DECL |= set(m.group(2).split())
-    return n in DECL
 
 
 def turn():
@@ -159,4 +84,4 @@ def turn_part(t, a, b, word):
 
 if __name__ == "__main__":
     os.chdir(os.path.join(HERE, ".."))
-    make() if sys.argv[1:] == ["--make"] else turn()
+    turn()

@@ -41,37 +41,27 @@ no_line c =
     token_no_line t c.loop-from.from.at (λ j. omega (arith, c.type_inv.text j)) _ k
     (sym c.is_line_end.ensures ∙ c.if-is_line_end.false) _ _ (hit c)
 
--- where the lexer stands behind it
-module _ (c : After-pass_lexeme-behind) where
-  hit_in : scan (drop c.loop-from.from.at c.args.text.now) ≡ Hit c.in-Hit.token c.in-Hit.n
-  hit_in = sym c.scan_token-found.ensures ∙ c.in-Hit.is
-
-  fits_in : c.loop-from.from.at + c.in-Hit.n ≤ length c.args.text.now
-  fits_in =
-      let t = c.args.text.now in
-      omega (arith, (hit_fits (drop c.loop-from.from.at t) _ _ hit_in).1, length-drop c.loop-from.from.at t, c.if-text-at.false)
-
-  no_line_in : is c.in-Hit.token T.Newline ≡ false
-  no_line_in =
-      token_no_line c.args.text.now c.loop-from.from.at (λ j. omega (arith, c.type_inv.text j)) _ c.class_at-k.ensures
-      (sym c.is_line_end.ensures ∙ c.if-is_line_end.false) _ _ hit_in
-
+-- where the lexer stands behind it, given what is known of the token
+module _ (c : After-pass_lexeme-behind)
+    (found : scan (drop c.loop-from.from.at c.args.text.now) ≡ Hit c.in-Hit.token c.in-Hit.n)
+    (inside : c.loop-from.from.at + c.in-Hit.n ≤ length c.args.text.now)
+    (plain : is c.in-Hit.token T.Newline ≡ false) where
   passed : c.pass_lexeme-behind.result
       ≡ pass (take c.in-Hit.n (drop c.loop-from.from.at c.args.text.now))
       c.in-Hit.token
       (drop c.in-Hit.n (drop c.loop-from.from.at c.args.text.now))
       c.loop-from.from
   passed =
-      rw (slice c.args.text.now c.loop-from.from.at c.in-Hit.n) at c.pass_lexeme-behind.ensures ∙ pass_behind _ _ _ _ c.loop-from.from no_line_in
+      rw (slice c.args.text.now c.loop-from.from.at c.in-Hit.n) at c.pass_lexeme-behind.ensures ∙ pass_behind _ _ _ _ c.loop-from.from plain
 
   length-of : length (take c.in-Hit.n (drop c.loop-from.from.at c.args.text.now))
       ≡ c.in-Hit.n
   length-of =
-      length-take-le _ (drop c.loop-from.from.at c.args.text.now) (hit_fits (drop c.loop-from.from.at c.args.text.now) _ _ hit_in).1
+      length-take-le _ (drop c.loop-from.from.at c.args.text.now) (hit_fits (drop c.loop-from.from.at c.args.text.now) _ _ found).1
 
   placed : Placed c.pass_lexeme-behind.result
   placed =
-      rw passed (pass_placed _ _ _ c.loop-from.from c.loop-from.invariant.0 (omega (arith, length-of, fits_in, c.requires.1)))
+      rw passed (pass_placed _ _ _ c.loop-from.from c.loop-from.invariant.0 (omega (arith, length-of, inside, c.requires.1)))
 
   moved : c.pass_lexeme-behind.result.at ≡ c.loop-from.from.at + c.in-Hit.n
   moved =
@@ -148,17 +138,17 @@ pass_lexeme-behind-requires c =
     (c.loop-from.invariant.0, rw (slice t c.loop-from.from.at c.in-Hit.n) (omega (arith, n, (fits (goal.at.pass_lexeme-behind-requires c).In-Hit).1, c.requires.1)), no_line (goal.at.pass_lexeme-behind-requires c).In-Hit)
 
 pub loop-from-smaller : goal.loop-from-smaller
-loop-from-smaller c = omega (arith, moved (goal.at.loop-from-smaller c).After-pass_lexeme-behind, (fits (goal.at.loop-from-smaller c).In-Hit).0, (fits (goal.at.loop-from-smaller c).In-Hit).1)
+loop-from-smaller c = omega (arith, moved (goal.at.loop-from-smaller c).After-pass_lexeme-behind (hit (goal.at.loop-from-smaller c).In-Hit) (fits (goal.at.loop-from-smaller c).In-Hit).1 (no_line (goal.at.loop-from-smaller c).In-Hit), (fits (goal.at.loop-from-smaller c).In-Hit).0, (fits (goal.at.loop-from-smaller c).In-Hit).1)
 
 pub loop-from-preserved : goal.loop-from-preserved
 loop-from-preserved c =
-    (placed (goal.at.loop-from-preserved c).After-pass_lexeme-behind, c.loop-from.invariant.1 ∙ rw (← c.skipped.ensures, c.if-skipped.true) at (next_hit _ c.loop-from.from _ _ (hit (goal.at.loop-from-preserved c).In-Hit) c.pass_lexeme-behind.result (passed (goal.at.loop-from-preserved c).After-pass_lexeme-behind)))
+    (placed (goal.at.loop-from-preserved c).After-pass_lexeme-behind (hit (goal.at.loop-from-preserved c).In-Hit) (fits (goal.at.loop-from-preserved c).In-Hit).1 (no_line (goal.at.loop-from-preserved c).In-Hit), c.loop-from.invariant.1 ∙ rw (← c.skipped.ensures, c.if-skipped.true) at (next_hit _ c.loop-from.from _ _ (hit (goal.at.loop-from-preserved c).In-Hit) c.pass_lexeme-behind.result (passed (goal.at.loop-from-preserved c).After-pass_lexeme-behind (hit (goal.at.loop-from-preserved c).In-Hit) (fits (goal.at.loop-from-preserved c).In-Hit).1 (no_line (goal.at.loop-from-preserved c).In-Hit))))
 
 pub until-loc-requires : goal.until-loc-requires
 until-loc-requires c =
-    (c.loop-from.invariant.0, placed (goal.at.until-loc-requires c).After-pass_lexeme-behind)
+    (c.loop-from.invariant.0, placed (goal.at.until-loc-requires c).After-pass_lexeme-behind (hit (goal.at.until-loc-requires c).In-Hit) (fits (goal.at.until-loc-requires c).In-Hit).1 (no_line (goal.at.until-loc-requires c).In-Hit))
 
 pub returns-else-skipped : goal.returns-else-skipped
 returns-else-skipped c =
     rw c.until-loc.ensures
-    (sym (c.loop-from.invariant.1 ∙ rw (← c.skipped.ensures, c.if-skipped.false) at (next_hit _ c.loop-from.from _ _ (hit (goal.at.returns-else-skipped c).In-Hit) c.pass_lexeme-behind.result (passed (goal.at.returns-else-skipped c).After-pass_lexeme-behind))))
+    (sym (c.loop-from.invariant.1 ∙ rw (← c.skipped.ensures, c.if-skipped.false) at (next_hit _ c.loop-from.from _ _ (hit (goal.at.returns-else-skipped c).In-Hit) c.pass_lexeme-behind.result (passed (goal.at.returns-else-skipped c).After-pass_lexeme-behind (hit (goal.at.returns-else-skipped c).In-Hit) (fits (goal.at.returns-else-skipped c).In-Hit).1 (no_line (goal.at.returns-else-skipped c).In-Hit)))))
