@@ -38,7 +38,7 @@ use Rattle.constants.specs.Constants.{
 }
 use Rattle.constants.proofs.Parts.{hex_is, hex_length}
 
--- `logic_at` unfolds all that the patterns are made of
+-- `rules_at` unfolds all that the patterns are made of
 unfoldable pub on : String → Scan
 unfolding rules_at words rules first keep scan_from scan
 on s = scan (bytes s)

@@ -1,6 +1,6 @@
 -- The code's tests of a kind's number are the definitions' lists of kinds, by tests over all 52.
 --     opener_test                             the openers of a value
---     leaf_type_law, container_type_law, leaf_value_law   the record of a kind; ..-none: there is one exactly for the kinds of the list
+--     leaf_type_law, container_type_law, leaf_value_law   the record of a kind; leaf_type_none, container_type_none, leaf_value_none: there is one exactly for the kinds of the list
 use mathlib.Core.Path.{◌≡◌, refl}
 use mathlib.Core.Bool.{true, not, cond}
 use lib.Dec.{eqb}

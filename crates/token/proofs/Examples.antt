@@ -17,7 +17,7 @@ use Rattle.token.specs.declared.Scan.{Scan}
 use Rattle.token.specs.declared.Scan.TheVariants.{Miss, Hit}
 use Rattle.token.proofs.Stable.{fixed}
 
--- `logic_at` unfolds all that the patterns are made of
+-- `rules_at` unfolds all that the patterns are made of
 unfoldable on : String → Scan
 unfolding rules_at words rules first keep scan_from scan
 on s = scan (bytes s)

@@ -211,7 +211,7 @@ low_bytes : (u : List ℕ) → T (low u) → Bytes u
 low_bytes [] h = tt
 low_bytes (c ∷ u) h = (let l : c < 128 = ltb→lt c 128 (both_left (ltb c 128) (low u) h) in omega arith, low_bytes u (both_right (ltb c 128) (low u) h))
 
--- `logic_at` unfolds all that the patterns are made of
+-- `rules_at` unfolds all that the patterns are made of
 unfoldable on : String → Scan
 unfolding rules_at words rules first keep scan_from scan
 on s = scan (ascii s)

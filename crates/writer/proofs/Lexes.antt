@@ -173,7 +173,7 @@ unfolding breaks
 any_ends k [] a b c h = tt
 any_ends k (x ∷ r) a b c h = (h.0, rw (a, b, c) tt)
 
--- `logic_at` unfolds all that the patterns are made of
+-- `rules_at` unfolds all that the patterns are made of
 unfoldable one : ℕ → Scan
 unfolding rules_at words rules first keep scan_from scan
 one b = scan (b ∷ [])
