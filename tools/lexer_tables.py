@@ -1,5 +1,5 @@
 #!/usr/bin/env python3
-"""Makes the lexer's constant table and its definition: crates/lexer/src/table.rt and crates/token/specs/Tables.antt.
+"""Makes the lexer's tables and their definitions: crates/scan/src/table.rt and crates/token/specs/Tables.antt.
 
 The class of each byte, and the keywords as a double-array trie. Nothing here is trusted: the checker holds both tables to
 the patterns by computed tests. Run from the repository's root; prints the nodes that spell a word, for words::kind_of."""
@@ -62,15 +62,18 @@ def cons(xs, width=32):
     return "\n    ∷ ".join(" ∷ ".join(map(str, xs[i : i + width])) for i in range(0, len(xs), width)) + " ∷ []"
 
 
-open("crates/lexer/src/table.rt", "w").write(f"""// The lexer's constant table, made by tools/lexer_tables.py. It is held to the patterns by computed tests.
+open("crates/scan/src/table.rt", "w").write(f"""// The lexer's tables, made by tools/lexer_tables.py. They are held to the patterns by computed tests.
 
 // The class of each byte: 0 to 7 digits, 8 to 35 letters and `_`, then the dot and the other signs.
-// From 256 on the keywords as a double-array trie. A number n and a class k lead to the number LUT[256 + n] + k if LUT[512 + that] is n, else to 0.
-pub const LUT: [u8; 768] = [
-{marked(classes)}{filled(trie)}];
+pub static CLASSES: [u8; 256] = [
+{marked(classes)}];
+
+// The keywords as a double-array trie. A number n and a class k lead to the number TRIE[n] + k if TRIE[256 + that] is n, else to 0.
+pub static TRIE: [u8; 512] = [
+{filled(trie)}];
 """)
-open("crates/token/specs/Tables.antt", "w").write(f"""-- The constant tables of the lexer, and what their entries stand for. Made by tools/lexer_tables.py.
-use Rattle.std.specs.Prelude.{{ℕ, List, [], ◌∷◌, ◌++◌}}
+open("crates/token/specs/Tables.antt", "w").write(f"""-- The tables of the lexer, and what their entries stand for. Made by tools/lexer_tables.py.
+use Rattle.std.specs.Prelude.{{ℕ, List, [], ◌∷◌}}
 use Prim.Native.String.{{String}}
 
 -- the class of each byte
@@ -87,10 +90,6 @@ reps =
 unfoldable pub trie : List ℕ
 trie =
     {cons(trie)}
-
--- what every scan is lent: the classes of the 256 bytes, then the trie
-unfoldable pub tables : List ℕ
-tables = classes ++ trie
 
 -- what each node spells; `-` where there is no node
 unfoldable pub spellings : List String

@@ -17,7 +17,7 @@ LISTS = [
     ("refusal", "REFUSED", "The refusals.", "crates/lexer/src/error.rt", "crates/lexer/specs/Error.antt"),
 ]
 # the code and the definitions of what no user sees: the kinds of token
-WITHIN = [("crates/token/src/kind.rt", "crates/token/specs/Kind.antt")]
+WITHIN = [("crates/token/src/lib.rt", "crates/token/specs/Kind.antt")]
 # numbers that are written by hand in each language: the code's, and where else the same number stands
 CODE, SPECS, C, CRATE = r"pub const {}: usize = (\d+);", r"(?m)^{} = (\d+)$", r"#define HIRVELAN_{} (\d+)u", r"pub const {}: usize = ([\d_]+);"
 SIZES = [
@@ -32,8 +32,24 @@ RUST = "command/hirvelan/src/numbers.rs"
 def text(file):
     return open(file, encoding="utf8").read()
 
+def screaming(name):
+    """A variant's name as a constant's: UnexpectedEOF is UNEXPECTED_EOF."""
+    return re.sub(r"(?<=[a-z0-9])(?=[A-Z])", "_", name).upper()
+
 def constants(file):
-    """[(name, number)] of a file that has public constants and comments only."""
+    """[(name, number)] of a file: those of its enum's variants, where it has one, and else of its public constants, with comments only around them."""
+    variants = re.search(r"^pub enum \w+ \{\n(.*?)^\}$", text(file), flags=re.M | re.S)
+    if variants:
+        found, number = [], 0
+        for line in filter(None, map(str.strip, variants[1].split("\n"))):
+            variant = re.fullmatch(r"(\w+)(?: = (\d+))?,", line)
+            if variant:
+                number = int(variant[2] or number)
+                found.append((screaming(variant[1]), str(number)))
+                number += 1
+            elif not line.startswith("//"):
+                sys.exit(f"{file}: no variant: {line}")
+        return found
     found = re.findall(r"^pub const (\w+): u32 = (\d+);$", text(file), flags=re.M)
     others = [line for line in text(file).split("\n") if line and not line.startswith(("//", "pub const "))]
     if others or len(found) != text(file).count("pub const "):

@@ -3,7 +3,7 @@
 --     drop_twice    a second drop drops nothing
 use mathlib.Core.Path.{◌≡◌, refl, ap}
 use mathlib.Core.List.{List, [], ◌∷◌}
-use mathlib.Core.Option.{Option, some, none}
+use Rattle.std.specs.Prelude.{Option, Some, None}
 use Rattle.ast.specs.Lists.{maps, opt}
 use Rattle.ast.specs.Ast.{
   Field,
@@ -41,8 +41,8 @@ field_order (field l c i q t n v a) = refl
 
 throws_order : (th : Option (List Field)) → opt (maps forget_field) (opt (maps drop_field) th) ≡ opt (maps drop_field) (opt (maps forget_field) th)
 unfolding opt
-throws_order none = refl
-throws_order (some fs) = ap some (maps_swap forget_field drop_field drop_field forget_field field_order fs)
+throws_order None = refl
+throws_order (Some fs) = ap Some (maps_swap forget_field drop_field drop_field forget_field field_order fs)
 
 function_order : (f : Function) → forget_function (drop_function f) ≡ drop_function (forget_function f)
 unfolding move_function drop_function
@@ -69,8 +69,8 @@ field_twice (field l c i q t n v a) = refl
 
 throws_twice : (th : Option (List Field)) → opt (maps drop_field) (opt (maps drop_field) th) ≡ opt (maps drop_field) th
 unfolding opt
-throws_twice none = refl
-throws_twice (some fs) = ap some (maps_once drop_field drop_field drop_field field_twice fs)
+throws_twice None = refl
+throws_twice (Some fs) = ap Some (maps_once drop_field drop_field drop_field field_twice fs)
 
 function_twice : (f : Function) → drop_function (drop_function f) ≡ drop_function f
 unfolding drop_function

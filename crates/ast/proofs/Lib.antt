@@ -4,3 +4,5 @@ pub mod Drops
 pub mod Counts
 pub mod Maps
 pub mod MovedRows
+pub mod KindLaws
+pub mod Largest

@@ -5,7 +5,7 @@
 --     notes_unlined    the comments without lines and columns
 use mathlib.Core.Path.{◌≡◌, refl, sym, ap, ap₂}
 use mathlib.Core.List.{List, [], ◌∷◌, ◌++◌}
-use mathlib.Core.Option.{Option, some, none}
+use Rattle.std.specs.Prelude.{Option, Some, None}
 use Prim.Native.Nat.{ℕ, suc, ◌+◌}
 use Rattle.lexer.specs.declared.location.Span.{Span}
 use Rattle.lexer.specs.declared.location.LOC.{LOC}
@@ -75,8 +75,8 @@ module _ (h : Span → Span) where
   perhaps_tree : {A : Type 0} (t : A → Tree) (m : A → A) → ((x : A) → t (m x) ≡ move_tree h (t x)) →
       (o : Option A) (r : Forest) → perhaps t (opt m o) (move_forest h r) ≡ move_forest h (perhaps t o r)
   unfolding perhaps opt move_forest
-  perhaps_tree t m e none r = refl
-  perhaps_tree t m e (some x) r = simp (e x)
+  perhaps_tree t m e None r = refl
+  perhaps_tree t m e (Some x) r = simp (e x)
 
   leaf_tree : (k : ℕ) (t : Lexeme) → leaf k (move_l h t) ≡ move_tree h (leaf k t)
   unfolding leaf move_l moves move_tree
@@ -138,13 +138,13 @@ module _ (h : Span → Span) where
 
   throws_flag_law : (th : Option (List Field)) → throws_flag (opt (maps (move_field h)) th) ≡ throws_flag th
   unfolding throws_flag opt
-  throws_flag_law none = refl
-  throws_flag_law (some fs) = refl
+  throws_flag_law None = refl
+  throws_flag_law (Some fs) = refl
 
   throws_tree : (th : Option (List Field)) (r : Forest) → throws_trees (opt (maps (move_field h)) th) (move_forest h r) ≡ move_forest h (throws_trees th r)
   unfolding throws_trees opt
-  throws_tree none r = refl
-  throws_tree (some fs) r = each_tree (field_tree K.Thrown) (move_field h) (field_tree_law K.Thrown) fs r
+  throws_tree None r = refl
+  throws_tree (Some fs) r = each_tree (field_tree K.Thrown) (move_field h) (field_tree_law K.Thrown) fs r
 
   function_tree_law : (x : Function) → function_tree (move_function h x) ≡ move_tree h (function_tree x)
   unfolding function_tree move_function move_tree

@@ -1,6 +1,6 @@
 -- The tree that is read, after rico's ast/definitions.rs. Its leaves are lexemes: kind, bytes and place.
 use Rattle.std.specs.Prelude.{Bool, List}
-use Rattle.std.proofs.Math.Option.{Option}
+use Rattle.std.specs.Prelude.{Option}
 use Rattle.lexer.specs.declared.location.LOC.{LOC}
 use Rattle.lexer.specs.Tokens.{Lexeme}
 

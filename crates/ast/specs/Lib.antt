@@ -7,3 +7,4 @@ pub mod Drop
 pub mod Largest
 pub mod Column
 pub mod Move
+pub mod KindNumber

@@ -1,6 +1,6 @@
 -- The nodes of document 01's records as trees: kind, flags, range, bytes, owned comments, children in the order they are read.
 use Rattle.std.specs.Prelude.{Bool, true, false, cond, List, [], ◌∷◌, ℕ, ◌+◌}
-use Rattle.std.proofs.Math.Option.{Option, some, none}
+use Rattle.std.specs.Prelude.{Option, Some, None}
 use Rattle.token.specs.Code.{is}
 use Rattle.token.specs.declared.Token.{Token}
 use Rattle.token.specs.declared.Token.TheVariants as T
@@ -81,8 +81,8 @@ each f [] r = r
 each f (x ∷ xs) r = grown (f x) (each f xs r)
 
 unfoldable pub perhaps : {A : Type 0} → (A → Tree) → Option A → Forest → Forest
-perhaps f none r = r
-perhaps f (some x) r = grown (f x) r
+perhaps f None r = r
+perhaps f (Some x) r = grown (f x) r
 
 unfoldable pub name_tree : Lexeme → Tree
 name_tree t = leaf K.Name t
@@ -143,12 +143,12 @@ oneway_flag true = K.Oneway
 oneway_flag false = 0
 
 unfoldable pub throws_flag : Option (List Field) → ℕ
-throws_flag none = 0
-throws_flag (some fs) = K.Throws
+throws_flag None = 0
+throws_flag (Some fs) = K.Throws
 
 unfoldable pub throws_trees : Option (List Field) → Forest → Forest
-throws_trees none r = r
-throws_trees (some fs) r = each (field_tree K.Thrown) fs r
+throws_trees None r = r
+throws_trees (Some fs) r = each (field_tree K.Thrown) fs r
 
 unfoldable pub function_tree : Function → Tree
 function_tree (function l c o t n ps th a) =

@@ -1,68 +1,172 @@
+ghost use Rattle.std.specs.Prelude.{◌≡◌};
+
 // The kinds of record, by document 01's numbers.
-pub const INCLUDE: u32 = 1;
+pub const INCLUDE: u32 = Kind::Include as u32;
 
-pub const CPP_INCLUDE: u32 = 2;
+pub const CPP_INCLUDE: u32 = Kind::CppInclude as u32;
 
-pub const NAMESPACE: u32 = 3;
+pub const NAMESPACE: u32 = Kind::Namespace as u32;
 
-pub const CONST: u32 = 4;
+pub const CONST: u32 = Kind::Const as u32;
 
-pub const TYPEDEF: u32 = 5;
+pub const TYPEDEF: u32 = Kind::Typedef as u32;
 
-pub const ENUM: u32 = 6;
+pub const ENUM: u32 = Kind::Enum as u32;
 
-pub const STRUCT: u32 = 7;
+pub const STRUCT: u32 = Kind::Struct as u32;
 
-pub const UNION: u32 = 8;
+pub const UNION: u32 = Kind::Union as u32;
 
-pub const EXCEPTION: u32 = 9;
+pub const EXCEPTION: u32 = Kind::Exception as u32;
 
-pub const SERVICE: u32 = 10;
+pub const SERVICE: u32 = Kind::Service as u32;
 
-pub const FUNCTION: u32 = 11;
+pub const FUNCTION: u32 = Kind::Function as u32;
 
-pub const FIELD: u32 = 12;
+pub const FIELD: u32 = Kind::Field as u32;
 
-pub const ENUM_MEMBER: u32 = 13;
+pub const ENUM_MEMBER: u32 = Kind::EnumMember as u32;
 
-pub const ANNOTATIONS: u32 = 14;
+pub const ANNOTATIONS: u32 = Kind::Annotations as u32;
 
-pub const ANNOTATION: u32 = 15;
+pub const ANNOTATION: u32 = Kind::Annotation as u32;
 
-pub const NAME: u32 = 16;
+pub const NAME: u32 = Kind::Name as u32;
 
-pub const FIELD_ID: u32 = 17;
+pub const FIELD_ID: u32 = Kind::FieldId as u32;
 
 // void too
-pub const KEYWORD_TYPE: u32 = 18;
+pub const KEYWORD_TYPE: u32 = Kind::KeywordType as u32;
 
-pub const NAMED_TYPE: u32 = 19;
+pub const NAMED_TYPE: u32 = Kind::NamedType as u32;
 
-pub const LIST: u32 = 20;
+pub const LIST: u32 = Kind::List as u32;
 
-pub const SET: u32 = 21;
+pub const SET: u32 = Kind::Set as u32;
 
-pub const MAP: u32 = 22;
+pub const MAP: u32 = Kind::Map as u32;
 
-pub const STRING: u32 = 23;
+pub const STRING: u32 = Kind::String as u32;
 
-pub const INTEGER: u32 = 24;
+pub const INTEGER: u32 = Kind::Integer as u32;
 
-pub const DOUBLE: u32 = 25;
+pub const DOUBLE: u32 = Kind::Double as u32;
 
-pub const BOOLEAN: u32 = 26;
+pub const BOOLEAN: u32 = Kind::Boolean as u32;
 
-pub const HEX: u32 = 27;
+pub const HEX: u32 = Kind::Hex as u32;
 
 // a name as value
-pub const NAME_VALUE: u32 = 28;
+pub const NAME_VALUE: u32 = Kind::NameValue as u32;
 
-pub const LIST_VALUE: u32 = 29;
+pub const LIST_VALUE: u32 = Kind::ListValue as u32;
 
-pub const MAP_VALUE: u32 = 30;
+pub const MAP_VALUE: u32 = Kind::MapValue as u32;
 
-pub const PROPERTY: u32 = 31;
+pub const PROPERTY: u32 = Kind::Property as u32;
 
-pub const LINE_COMMENT: u32 = 32;
+pub const LINE_COMMENT: u32 = Kind::LineComment as u32;
 
-pub const BLOCK_COMMENT: u32 = 33;
+pub const BLOCK_COMMENT: u32 = Kind::BlockComment as u32;
+
+// The kinds of record.
+#[derive(Clone, Copy, Debug, PartialEq, Eq)]
+pub enum Kind {
+    Include = 1,
+    CppInclude = 2,
+    Namespace = 3,
+    Const = 4,
+    Typedef = 5,
+    Enum = 6,
+    Struct = 7,
+    Union = 8,
+    Exception = 9,
+    Service = 10,
+    Function = 11,
+    Field = 12,
+    EnumMember = 13,
+    Annotations = 14,
+    Annotation = 15,
+    Name = 16,
+    FieldId = 17,
+    // void too
+    KeywordType = 18,
+    NamedType = 19,
+    List = 20,
+    Set = 21,
+    Map = 22,
+    String = 23,
+    Integer = 24,
+    Double = 25,
+    Boolean = 26,
+    Hex = 27,
+    // a name as value
+    NameValue = 28,
+    ListValue = 29,
+    MapValue = 30,
+    Property = 31,
+    LineComment = 32,
+    BlockComment = 33,
+}
+
+impl Kind {
+    ghost use Rattle.ast.specs.KindNumber.{number_of};
+
+    // The papers' number.
+    pub fn number(self) -> u32
+        ensures { result ≡ number_of self }
+    {
+        self as u32
+    }
+}
+
+// A number that no kind has.
+#[derive(Clone, Copy, Debug, PartialEq, Eq)]
+pub struct UnknownKind(pub u32);
+
+impl TryFrom<u32> for Kind {
+    ghost use Rattle.ast.specs.KindNumber.{Decodes};
+
+    type Error = UnknownKind;
+
+    ghost try_from_gives = { Decodes };
+
+    fn try_from(number: u32) -> Result<Self, UnknownKind> {
+        match number {
+            1 => Ok(Kind::Include),
+            2 => Ok(Kind::CppInclude),
+            3 => Ok(Kind::Namespace),
+            4 => Ok(Kind::Const),
+            5 => Ok(Kind::Typedef),
+            6 => Ok(Kind::Enum),
+            7 => Ok(Kind::Struct),
+            8 => Ok(Kind::Union),
+            9 => Ok(Kind::Exception),
+            10 => Ok(Kind::Service),
+            11 => Ok(Kind::Function),
+            12 => Ok(Kind::Field),
+            13 => Ok(Kind::EnumMember),
+            14 => Ok(Kind::Annotations),
+            15 => Ok(Kind::Annotation),
+            16 => Ok(Kind::Name),
+            17 => Ok(Kind::FieldId),
+            18 => Ok(Kind::KeywordType),
+            19 => Ok(Kind::NamedType),
+            20 => Ok(Kind::List),
+            21 => Ok(Kind::Set),
+            22 => Ok(Kind::Map),
+            23 => Ok(Kind::String),
+            24 => Ok(Kind::Integer),
+            25 => Ok(Kind::Double),
+            26 => Ok(Kind::Boolean),
+            27 => Ok(Kind::Hex),
+            28 => Ok(Kind::NameValue),
+            29 => Ok(Kind::ListValue),
+            30 => Ok(Kind::MapValue),
+            31 => Ok(Kind::Property),
+            32 => Ok(Kind::LineComment),
+            33 => Ok(Kind::BlockComment),
+            _ => Err(UnknownKind(number)),
+        }
+    }
+}

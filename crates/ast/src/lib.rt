@@ -23,5 +23,5 @@ pub const LARGEST: u32 = 4294967295;
 pub fn bump(n: u32) -> u32
     ensures { result ≡ bump n }
 {
-    if n < LARGEST { n + 1 } else { n }
+    n.saturating_add(1)
 }

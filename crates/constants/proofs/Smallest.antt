@@ -12,8 +12,8 @@ use Rattle.token.specs.Scan.{first, keep, scan_from, scan}
 use Rattle.token.specs.Automaton.{rules_at}
 use Rattle.token.specs.Match.{stop, In}
 use Rattle.token.specs.declared.Token.TheVariants as T
-use Rattle.token.specs.declared.Scan.{Scan}
-use Rattle.token.specs.declared.Scan.TheVariants.{Miss, Hit}
+use Rattle.token.specs.Scanned.{Scan}
+use Rattle.std.specs.Prelude.{Some, None}
 use Rattle.constants.specs.Constants.{
   Digit,
   none,
@@ -64,7 +64,7 @@ bare_text = bare unsigned naught plain
 pub bare_least : {w : List ℕ} → BareDot w → 2 ≤ length w
 bare_least (bare {s = s} {d = d} {e = e} g n x) = omega (arith, length-append s (d ++ 46 ∷ e), length-append d (46 ∷ e), number_length n)
 
-pub bare_scan : on "0." ≡ Hit T.DoubleLiteral 2
+pub bare_scan : on "0." ≡ Some (T.DoubleLiteral, 2)
 unfolding on
 bare_scan = refl
 
@@ -77,7 +77,7 @@ lone_text = lone unsigned lower (int unsigned naught)
 pub lone_least : {w : List ℕ} → LoneExponent w → 2 ≤ length w
 lone_least (lone {s = s} {i = i} {c = c} g l n) = omega (arith, length-append s (c ∷ i), int_length n)
 
-pub lone_scan : on "e0" ≡ Hit T.Identifier 2
+pub lone_scan : on "e0" ≡ Some (T.Identifier, 2)
 unfolding on
 lone_scan = refl
 
@@ -85,7 +85,7 @@ pub lone_signed : LoneExponent (bytes "+e0")
 unfolding bytes
 lone_signed = lone plus lower (int unsigned naught)
 
-pub lone_signed_scan : on "+e0" ≡ Miss
+pub lone_signed_scan : on "+e0" ≡ None
 unfolding on
 lone_signed_scan = refl
 
@@ -109,15 +109,15 @@ sign_texts unsigned = inl refl
 sign_texts plus = inr (inl refl)
 sign_texts minus = inr (inr refl)
 
-pub empty_scan : on "" ≡ Miss
+pub empty_scan : on "" ≡ None
 unfolding on
 empty_scan = refl
 
-pub plus_scan : on "+" ≡ Miss
+pub plus_scan : on "+" ≡ None
 unfolding on
 plus_scan = refl
 
-pub minus_scan : on "-" ≡ Miss
+pub minus_scan : on "-" ≡ None
 unfolding on
 minus_scan = refl
 
@@ -130,7 +130,7 @@ int_text = int unsigned naught
 pub int_least : {w : List ℕ} → IntConstant w → 1 ≤ length w
 int_least = int_length
 
-pub int_scan : on "0" ≡ Hit T.IntegerLiteral 1
+pub int_scan : on "0" ≡ Some (T.IntegerLiteral, 1)
 unfolding on
 int_scan = refl
 
@@ -143,7 +143,7 @@ hex_text = rw hex_is (48 ∷ [], 120 ∷ 48 ∷ [], refl, (48, refl, refl), (120
 pub hex_least : (w : List ℕ) → In hex_pattern w → 3 ≤ length w
 hex_least w m = hex_length w (rw hex_is at m)
 
-pub hex_scan : on "0x0" ≡ Hit T.HexLiteral 3
+pub hex_scan : on "0x0" ≡ Some (T.HexLiteral, 3)
 unfolding on
 hex_scan = refl
 
@@ -158,6 +158,6 @@ shared_least (fraction {s = s} {d = d} {f = f} {e = e} g ds n x) =
     omega (arith, length-append s (d ++ (46 ∷ f ++ e)), length-append d (46 ∷ f ++ e), length-append f e, number_length n)
 shared_least (scaled {s = s} {d = d} {i = i} {c = c} g n l k) = omega (arith, length-append s (d ++ c ∷ i), length-append d (c ∷ i), number_length n)
 
-pub shared_scan : on ".0" ≡ Hit T.DoubleLiteral 2
+pub shared_scan : on ".0" ≡ Some (T.DoubleLiteral, 2)
 unfolding on
 shared_scan = refl

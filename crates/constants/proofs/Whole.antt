@@ -14,11 +14,11 @@ use Rattle.token.specs.Code.{code, is}
 use Rattle.token.specs.Regex.{Range, to, Regex, set, seq, within, then, bytes, ranges}
 use Rattle.token.specs.Patterns.{Rule, rule, Word, word, word_rule, token, one_of, none_of, plus, opt, exact, words, marks, name, quoted, digits as digitsOf, sign as sign_of, exponent as exponentOf, point as point_of, stars, shapes, rest, rules, pattern_of}
 use Rattle.token.specs.Scan.{scan}
-use Rattle.token.specs.Match.{In, None, First, NoneBeyond, Longest}
+use Rattle.token.specs.Match.{In, MatchesNone, First, NoneBeyond, Longest}
 use Rattle.token.specs.declared.Token.{Token}
 use Rattle.token.specs.declared.Token.TheVariants as T
-use Rattle.token.specs.declared.Scan.{Scan}
-use Rattle.token.specs.declared.Scan.TheVariants.{Miss, Hit}
+use Rattle.token.specs.Scanned.{Scan}
+use Rattle.std.specs.Prelude.{Some, None}
 use Rattle.token.proofs.Meaning.{scan_longest}
 use Rattle.constants.specs.Constants.{IntConstant, Shared, BareDot, integer_pattern, double_pattern, hex_pattern}
 use Rattle.constants.proofs.Shapes.{Shape, shared, bare_dot, lone_exponent, lone_sign, integer, other, is_digit, is_sign, is_letter, digit_next, sign_next, at, walk, unsign, shape, shape_int, shape_bare, shape_shared}
@@ -165,7 +165,7 @@ module _ (w : List ℕ) (k : Token) (n : Odd w → ⊥) where
 
 -- ---- the whole text is the longest match
 
-none_pattern : (k : Token) (rs : List Rule) (w : List ℕ) → None rs w → In (pattern_of k rs) w → ⊥
+none_pattern : (k : Token) (rs : List Rule) (w : List ℕ) → MatchesNone rs w → In (pattern_of k rs) w → ⊥
 unfolding pattern_of
 none_pattern k [] w h m = m
 none_pattern k (rule q r ∷ rs) w h m = go (is k q) m (none_pattern k rs w h.1)
@@ -178,11 +178,11 @@ module _ (q : Token) (w : List ℕ) (some : 0 < length w) (m : In (pattern_of q 
   none_whole : (n : ℕ) → n < length w → NoneBeyond w n → ⊥
   none_whole n h b = none_pattern q rules w (rw (take-length w) at (b (length w) h (omega arith))) m
 
-  scanned : (s : Scan) → Longest w s → s ≡ Hit q (length w)
-  scanned Miss l = absurd (none_whole 0 some l)
-  scanned (Hit k n) l = go (eq-or-lt_of_le l.1)
+  scanned : (s : Scan) → Longest w s → s ≡ Some (q, length w)
+  scanned None l = absurd (none_whole 0 some l)
+  scanned (Some (k, n)) l = go (eq-or-lt_of_le l.1)
     where
-      go : (n ≡ length w) ⊎ (n < length w) → Hit k n ≡ Hit q (length w)
+      go : (n ≡ length w) ⊎ (n < length w) → ◌≡◌ {A = Scan} (Some (k, n)) (Some (q, length w))
       go (inl e) = rw (e, kind k (rw (e, take-length w) at l.2))
       go (inr h) = absurd (none_whole n h l.3)
 
@@ -198,7 +198,7 @@ double_even (inl h) (inr e) = let z : ◌≡◌ {A = ℕ} 0 1 = cc (shape_shared
 double_even (inr h) (inl e) = let z : ◌≡◌ {A = ℕ} 0 1 = cc (shape_bare h) in omega arith
 double_even (inr h) (inr e) = let z : ◌≡◌ {A = ℕ} 0 1 = cc (shape_bare h) in omega arith
 
-pub int_whole : (w : List ℕ) → IntConstant w → scan w ≡ Hit T.IntegerLiteral (length w)
+pub int_whole : (w : List ℕ) → IntConstant w → scan w ≡ Some (T.IntegerLiteral, length w)
 unfolding integer_pattern
 int_whole w h =
     let m = (int_exactly w).0 h in
@@ -208,7 +208,7 @@ double_size : {w : List ℕ} → Shared w ⊎ BareDot w → 2 ≤ length w
 double_size (inl h) = shared_least h
 double_size (inr h) = bare_least h
 
-pub double_whole : (w : List ℕ) → Shared w ⊎ BareDot w → scan w ≡ Hit T.DoubleLiteral (length w)
+pub double_whole : (w : List ℕ) → Shared w ⊎ BareDot w → scan w ≡ Some (T.DoubleLiteral, length w)
 unfolding double_pattern
 double_whole w h =
     let m = (rico_double w).1 h in
@@ -216,8 +216,8 @@ double_whole w h =
     (scan_longest w)
 
 -- a text is an IntConstant just where it is scanned as one IntegerLiteral; and so for a double
-pub int_scanned : (w : List ℕ) → IntConstant w ↔ (scan w ≡ Hit T.IntegerLiteral (length w))
+pub int_scanned : (w : List ℕ) → IntConstant w ↔ (scan w ≡ Some (T.IntegerLiteral, length w))
 int_scanned w = (int_whole w, λ e. rw (take-length w) at (int_token w (length w) e))
 
-pub double_scanned : (w : List ℕ) → (Shared w ⊎ BareDot w) ↔ (scan w ≡ Hit T.DoubleLiteral (length w))
+pub double_scanned : (w : List ℕ) → (Shared w ⊎ BareDot w) ↔ (scan w ≡ Some (T.DoubleLiteral, length w))
 double_scanned w = (double_whole w, λ e. rw (take-length w) at (double_token w (length w) e))

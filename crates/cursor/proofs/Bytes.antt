@@ -1,25 +1,30 @@
 -- Bytes that are copied into the output, and parts of the text.
---     number_in, number_past             a number of a record, and one behind the table's end
---     kind_in_law, kind_past                 a node record's kind, and none behind the last record; parent_in, parent_past: a record's parent
+--     number_in                          a number of a record
+--     in_record                          a number of a record, read from the record
+--     kind_in_law, kind_past             a node record's kind, and none behind the last record; parent_in, parent_past: a record's parent
 --     copy_step, copy_done               a copy, byte by byte
---     wipe_step, wipe_done               bytes that become 0, one by one
---     put_in, put_past, put_over         bytes that the output holds, and bytes that it does not
---     part_past, part_back, part_in      a part that ends behind the text, one that ends before it starts, and one that lies in the text
-use mathlib.Core.Path.{◌≡◌, sym, ap, ◌∙◌}
+--     put_in, put_past                   bytes that the output holds, and bytes that it does not
+--     part_none, part_in                 a part that does not lie in the text, and one that does
+--     comments_nothing                   no comments
+--     token_is, comment_is               a token and a comment, by the part that was read
+use mathlib.Core.Path.{◌≡◌, refl, sym, ◌∙◌}
+use mathlib.Core.Logic.{◌⊎◌, inl, inr}
 use mathlib.Core.List.{List, ◌++◌, append-nil}
-use Prim.Native.Nat.{ℕ, suc, ◌+◌, ◌*◌, ◌-◌, ◌/◌, ◌≤◌, ◌<◌}
+use Prim.Native.Nat.{ℕ, zero, suc, ◌+◌, ◌*◌, ◌-◌, ◌/◌, ◌≤◌, ◌<◌}
 use native.Mathlib.Nat.{le-div_iff_mul-le, div-lt_iff_lt-mul}
 use native.Mathlib.Omega.{arith}
-use mathlib.Core.Bool.{true, false}
+use mathlib.Core.Bool.{Bool, true, false, cond}
 use lib.Dec.{ltb}
-use borrow.Author.Tests.{lt-ltb, le-ltb, le-leb, lt-leb}
-use lib.ListN.{length, take, drop, set, replicate, get_or, length-set, length-drop, drop_of_length-le, get_or-eq_default}
-use lib.Seq.{take_all, take-suc, take-suc-set, drop-cons, drop-drop, set_at, append_snoc, length-take-le}
+use borrow.Author.Tests.{ne_eqb, lt-ltb, le-ltb, le-leb, lt-leb}
+use lib.ListN.{length, take, drop, set, get_or, length-drop, drop_of_length-le}
+use lib.Seq.{take_all, take-suc, drop-cons, drop-drop, set_at, append_snoc, length-take-le}
 use borrow.Rule.Slice.PartMut.{put_mid}
+use Rattle.std.specs.List.{slice_range}
+use Rattle.std.proofs.lemmas.List.{get_or-take, get_or-drop}
 use Rattle.ast.specs.Column as C
-use Rattle.ast.specs.Records.{node_width, no_parent, room}
+use Rattle.ast.specs.Records.{comment_width, node_width, no_parent, room}
 use Rattle.cursor.specs.declared.Cursor.{Cursor}
-use Rattle.cursor.specs.Onto.{Reached, reached, number_at, kind_at, parent_at, put_out, part_out}
+use Rattle.cursor.specs.Onto.{Reached, reached, then, ◌⨟◌, number_at, kind_at, parent_at, pass_node, pass_comment, put_out, say_out, part_out, token_out, spaces_out, comment_out, comments_from, comments_out}
 
 -- ---- number_at and part_at
 
@@ -28,10 +33,13 @@ module _ (w : ℕ) (t : List ℕ) (r k : ℕ) (h : k < w) where
   unfolding number_at
   number_in = rw (lt-leb w k h)
 
-  pub number_past : length t ≤ r * w + k → 0 ≡ number_at w t r k
-  number_past l = sym (get_or-eq_default t 0 l) ∙ number_in
+-- a number of a record that the table holds
+pub in_record : (w : ℕ) (t : List ℕ) (r k : ℕ) {s : List ℕ} → k < w → s ≡ slice_range t (r * w) (r * w + w) → get_or s k 0 ≡ get_or t (r * w + k) 0
+in_record w t r k h e =
+    let n : k < r * w + w - r * w = omega (arith, h) in
+    rw e (get_or-take (r * w + w - r * w) (drop (r * w) t) k 0 n ∙ get_or-drop (r * w) t k 0)
 
--- ---- kind_at, parent_at and owner_at
+-- ---- kind and parent_at
 
 -- whether a table holds record r
 module _ {w : ℕ} (t : List ℕ) (r : ℕ) (h : 0 < w) where
@@ -44,11 +52,9 @@ module _ {w : ℕ} (t : List ℕ) (r : ℕ) (h : 0 < w) where
   not_held l = let g : length t / w < suc r = (div-lt_iff_lt-mul {k = w} {x = length t} {y = suc r} h).1 (omega arith) in le-ltb r (length t / w) (omega arith)
 
 module _ (t : List ℕ) (r : ℕ) where
-  pub kind_in_law : r * node_width + node_width ≤ length t → get_or t (r * node_width) 0 ≡ kind_at t (room node_width t) r
+  pub kind_in_law : r * node_width + node_width ≤ length t → get_or t (r * node_width + 0) 0 ≡ kind_at t (room node_width t) r
   unfolding kind_at node_width
-  kind_in_law l =
-      let e : r * node_width ≡ r * node_width + 0 = omega arith in
-      rw (held t r (omega arith) l) (ap (λ (i : ℕ). get_or t i 0) e ∙ number_in node_width t r 0 (omega arith))
+  kind_in_law l = rw (held t r (omega arith) l) (number_in node_width t r 0 (omega arith))
 
   pub kind_past : length t < r * node_width + node_width → 0 ≡ kind_at t (room node_width t) r
   unfolding kind_at node_width
@@ -79,20 +85,6 @@ copy_step i b o out h l e =
 pub copy_done : (i : ℕ) (b o out : List ℕ) → i ≤ length b → length b ≤ i → out ≡ copied i b o → out ≡ b ++ drop (length b) o
 copy_done i b o out h l e = let n : i ≡ length b = omega arith in e ∙ rw (n, take_all (length b) b (omega arith))
 
--- ---- clear
-
-abbrev pub wiped : ℕ → List ℕ → List ℕ
-wiped i t = take i t ++ replicate (length t - i) 0
-
-pub wipe_step : (i : ℕ) (t : List ℕ) → i < length t → wiped (i + 1) (set t i 0) ≡ wiped i t
-wipe_step i t h =
-    let e : i + 1 ≡ suc i = omega arith in
-    let n : length t - i ≡ suc (length t - suc i) = omega arith in
-    rw (length-set, e, take-suc-set t i 0 h, n) (append_snoc (take i t) 0 (replicate (length t - suc i) 0))
-
-pub wipe_done : (i : ℕ) (t : List ℕ) → length t ≤ i → wiped i t ≡ t
-wipe_done i t h = let n : length t - i ≡ 0 = omega arith in rw (n, take_all i t h) (append-nil t)
-
 -- ---- put
 
 module _ (b : List ℕ) (p : Cursor) (o : List ℕ) where
@@ -102,32 +94,48 @@ module _ (b : List ℕ) (p : Cursor) (o : List ℕ) where
       let n : length (drop p.length o) ≤ length o - p.length = omega (arith, length-drop p.length o) in
       rw (e, take_all (length o - p.length) (drop p.length o) n, drop_of_length-le (drop p.length o) n, append-nil, drop-drop (length b) p.length o)
 
-  pub put_in : (v : List ℕ) → p.length ≤ length o → length b ≤ length o - p.length
+  pub put_in : (v : List ℕ) → p.length + length b ≤ length o
       → v ≡ b ++ drop (length b) (take (length o - p.length) (drop p.length o))
       → reached (record { node = p.node; comment = p.comment; length = p.length + length b }) (put_mid p.length (length o - p.length) o v) ≡ put_out b p o
   unfolding put_out
-  put_in v h l e = rw (le-leb (p.length + length b) (length o) (omega arith), lent v e)
+  put_in v h e = rw (le-leb (p.length + length b) (length o) h, lent v e)
 
-  pub put_past : p.length ≤ length o → length o - p.length < length b
-      → reached (record { node = p.node; comment = p.comment; length = length o + 1 }) o ≡ put_out b p o
+  pub put_past : length o < p.length + length b → reached (record { node = p.node; comment = p.comment; length = length o + 1 }) o ≡ put_out b p o
   unfolding put_out
-  put_past h l = rw (lt-leb (p.length + length b) (length o) (omega arith))
-
-  pub put_over : length o < p.length → reached (record { node = p.node; comment = p.comment; length = length o + 1 }) o ≡ put_out b p o
-  unfolding put_out
-  put_over h = rw (lt-leb (p.length + length b) (length o) (omega arith))
+  put_past h = rw (lt-leb (p.length + length b) (length o) h)
 
 -- ---- put_part
 
 module _ (text : List ℕ) (a b : ℕ) (p : Cursor) (o : List ℕ) where
-  pub part_past : length text < b → reached p o ≡ part_out text a b p o
-  unfolding part_out
-  part_past h = rw (lt-ltb _ _ h)
+  both : (x : Bool) → reached p o ≡ cond x (reached p o) (reached p o)
+  both true = refl
+  both false = refl
 
-  pub part_back : b ≤ length text → b < a → reached p o ≡ part_out text a b p o
+  pub part_none : (b < a) ⊎ (length text < b) → reached p o ≡ part_out text a b p o
   unfolding part_out
-  part_back h l = rw (le-ltb _ _ h, lt-ltb _ _ l)
+  part_none (inl h) = rw (lt-ltb _ _ h) (both (ltb (length text) b))
+  part_none (inr h) = rw (lt-ltb _ _ h)
 
   pub part_in : (i : Reached) → b ≤ length text → a ≤ b → i ≡ put_out (take (b - a) (drop a text)) p o → i ≡ part_out text a b p o
   unfolding part_out
   part_in i h l e = rw (le-ltb _ _ h, le-ltb _ _ l) e
+
+-- ---- put_token and put_comment
+
+module _ (text t : List ℕ) (a b : ℕ) (p : Cursor) (o : List ℕ) where
+  pub token_is : a ≡ number_at node_width t p.node C.Start → b ≡ number_at node_width t p.node C.End →
+      token_out text t p o ≡ then (part_out text a b p o) pass_node
+  unfolding token_out
+  token_is h k = rw (h, k)
+
+  pub comment_is : (indent : ℕ) → a ≡ number_at comment_width t p.comment C.Start → b ≡ number_at comment_width t p.comment C.End →
+      comment_out text t indent p o ≡ then (spaces_out indent p o) (part_out text a b ⨟ (say_out "\n" ⨟ pass_comment))
+  unfolding comment_out
+  comment_is indent h k = rw (h, k)
+
+-- no comment of the next node is ahead
+pub comments_nothing : (text comments : List ℕ) (total indent : ℕ) (p : Cursor) (o : List ℕ) {x : ℕ} → x ≡ parent_at comment_width comments total p.comment → (x ≡ p.node → ⊥) →
+    comments_out text comments total p.node indent p o ≡ reached p o
+unfolding comments_out comments_from
+comments_nothing text comments zero indent p o e h = refl
+comments_nothing text comments (suc n) indent p o {x} e h = rw (sym e, ne_eqb x p.node h)

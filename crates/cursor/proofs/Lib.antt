@@ -1,3 +1,3 @@
 pub mod Bytes
-pub mod Runs
 pub mod Chain
+pub mod KindRead

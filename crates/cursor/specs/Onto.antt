@@ -1,6 +1,6 @@
 -- What each step of the printer does to where it stands and to the output, from the text and the two tables. Contracts of this crate and of those above it cite it, and
 -- printer/proofs/Meant shows what it means; nothing else has to believe it.
-use Rattle.std.specs.Prelude.{◌≡◌, Bool, true, false, cond, List, ◌++◌, ℕ, zero, suc, ◌+◌, ◌*◌, ◌-◌, eqb, ltb, leb, length, take, drop, get_or}
+use Rattle.std.specs.Prelude.{Bool, true, false, cond, List, ◌++◌, ℕ, zero, suc, ◌+◌, ◌*◌, ◌-◌, eqb, ltb, leb, length, take, drop, get_or}
 use Prim.Native.String.{String}
 use Rattle.token.specs.Regex.{bytes as ascii}
 use Rattle.ast.specs.Column as C
@@ -21,13 +21,6 @@ then (reached p o) k = k p o
 infixr 20 ◌⨟◌
 abbrev pub ◌⨟◌ : W → W → W
 ◌⨟◌ m k = λ p o. then (m p o) k
-
--- the contracts of a function that is lent the output, and of one that is not
-abbrev pub Writes : W → Cursor → Cursor → List ℕ → List ℕ → Type 0
-Writes m p r o o' = reached r o' ≡ m p o
-
-abbrev pub Moves : W → Cursor → Cursor → Type 0
-Moves m p r = (o : List ℕ) → reached r o ≡ m p o
 
 -- a number of a record, in a table of records of w numbers
 unfoldable pub number_at : ℕ → List ℕ → ℕ → ℕ → ℕ

@@ -1,11 +1,14 @@
 // Where the printer stands, the records that it prints from, and the output.
 #![tactic(auto)]
 
-ghost use Rattle.std.specs.Prelude.{◌≡◌, ◌++◌, ◌-◌, ◌≤◌, ◌<◌, length, take, drop, replicate, get_or};
+ghost use Rattle.std.specs.Prelude.{◌≡◌, ◌++◌, ◌-◌, ◌≤◌, ◌<◌, length, take, drop, replicate, get_or, eqb};
 ghost use Rattle.ast.specs.Column as C;
+ghost use Rattle.ast.specs.KindNumber.{number_of, kind_of};
 ghost use Rattle.ast.specs.Records.{comment_width, node_width, room};
-ghost use Rattle.cursor.specs.Onto.{Writes, Moves, number_at, kind_at, parent_at, pass_node, pass_comment, put_out, part_out, token_out, spaces_out, comment_out, comments_out, pass_comments, below, pass_below};
+ghost use Rattle.cursor.specs.Onto.{then, ◌⨟◌, number_at, kind_at, parent_at, pass_node, pass_comment, put_out, part_out, token_out, spaces_out, comment_out, comments_out, pass_comments, below, pass_below};
+ghost use Rattle.cursor.specs.Writes.{Writes};
 
+use ast::kind::Kind;
 use ast::{COMMENT_WIDTH, NO_PARENT, NODE_WIDTH, column};
 
 // The next node record, the next comment record, and how many bytes were printed; one more than the output holds where they did not fit.
@@ -16,50 +19,48 @@ pub struct Cursor {
     pub length: usize,
 }
 
-// A number of a node record; 0 where the table does not hold it.
-pub fn number_at(nodes: &[u32], row: u32, k: usize) -> u32
-    ensures { result ≡ number_at node_width nodes.now row k }
-{
-    if NODE_WIDTH <= k {
-        return 0;
-    }
-    let at = row as usize * NODE_WIDTH + k;
-    if at < nodes.len() { nodes[at] } else { 0 }
+// What the printer prints from, the output that it is lent, and where it stands.
+#[derive(Drop)]
+pub struct Writer<'a> {
+    pub text: &'a [u8],
+    pub nodes: &'a [u32],
+    pub comments: &'a [u32],
+    // spaces a level
+    pub indent: u32,
+    pub out: &'a mut [u8],
+    pub at: Cursor,
 }
 
-// The kind of a node record; 0 behind the last one.
-pub fn kind_at(nodes: &[u32], row: u32) -> u32
-    ensures { result ≡ kind_at nodes.now (room node_width nodes.now) row }
+// Copies bytes to the front of a slice that is as long or longer.
+pub fn copy(out: &mut [u8], bytes: &[u8])
+    requires { length bytes.now ≤ length out.old }
+    ensures { out.new ≡ bytes.now ++ drop (length bytes.now) out.old }
 {
-    let at = row as usize * NODE_WIDTH;
-    if at + NODE_WIDTH <= nodes.len() {
-        nodes[at]
-    } else {
-        0
-    }
-}
-
-// The parent of a node record; none behind the last one.
-pub fn parent_at(nodes: &[u32], row: u32) -> u32
-    ensures { result ≡ parent_at node_width nodes.now (room node_width nodes.now) row }
-{
-    let at = row as usize * NODE_WIDTH;
-    if at + NODE_WIDTH <= nodes.len() {
-        nodes[at + column::PARENT]
-    } else {
-        NO_PARENT
+    // byte by byte: `copy_from_slice` is a call for each short token, and was counted slower
+    let mut i: usize = 0;
+    while i < bytes.len() {
+        out[i] = bytes[i];
+        i += 1;
     }
 }
 
-// The owner of a comment record; none behind the last one.
-fn owner_at(comments: &[u32], row: u32) -> u32
-    ensures { result ≡ parent_at comment_width comments.now (room comment_width comments.now) row }
+// Bytes become 0 from an index on.
+pub fn clear(bytes: &mut [u8], from: usize)
+    requires { from ≤ length bytes.old }
+    ensures { bytes.new ≡ take from bytes.old ++ replicate (length bytes.old - from) 0 }
 {
-    let at = row as usize * COMMENT_WIDTH;
-    if at + COMMENT_WIDTH <= comments.len() {
-        comments[at + column::PARENT]
-    } else {
-        NO_PARENT
+    bytes[from..].fill(0);
+}
+
+// The parent of a record in a table of records of so many numbers; none behind the last one.
+fn parent_at(table: &[u32], width: usize, row: u32) -> u32
+    requires { (C.Parent < width) × (width ≤ node_width) }
+    ensures { result ≡ parent_at width table.now (room width table.now) row }
+{
+    let at = row as usize * width;
+    match table.get(at..at + width) {
+        Some(record) => record[column::PARENT],
+        None => NO_PARENT,
     }
 }
 
@@ -74,7 +75,7 @@ struct Part {
 fn or_zero(table: &[u32], at: usize) -> u32
     ensures { result ≡ get_or table.now at 0 }
 {
-    if at < table.len() { table[at] } else { 0 }
+    table.get(at).copied().unwrap_or(0)
 }
 
 // The part that record `row` tells of, in a table of records of so many numbers; 0 for a number that the table does not hold.
@@ -83,207 +84,189 @@ fn part_at(table: &[u32], width: usize, row: u32) -> Part
     ensures { (result.start ≡ number_at width table.now row C.Start) × (result.end ≡ number_at width table.now row C.End) }
 {
     let at = row as usize * width;
-    if table.len() < at + width {
-        return Part {
+    match table.get(at..at + width) {
+        Some(record) => Part {
+            start: record[column::START],
+            end: record[column::END],
+        },
+        None => Part {
             start: or_zero(table, at + column::START),
             end: or_zero(table, at + column::END),
-        };
+        },
     }
-    Part {
-        start: table[at + column::START],
-        end: table[at + column::END],
-    }
-}
-
-// Past a node record.
-pub fn pass_node(at: Cursor) -> Cursor
-    ensures { Moves (pass_node) at result }
-{
-    Cursor {
-        node: ast::bump(at.node),
-        comment: at.comment,
-        length: at.length,
-    }
-}
-
-// Past a comment record.
-pub fn pass_comment(at: Cursor) -> Cursor
-    ensures { Moves (pass_comment) at result }
-{
-    Cursor {
-        node: at.node,
-        comment: ast::bump(at.comment),
-        length: at.length,
-    }
-}
-
-// Copies bytes to the front of a slice that is as long or longer.
-pub fn copy(out: &mut [u8], bytes: &[u8])
-    requires { length bytes.now ≤ length out.old }
-    ensures { out.new ≡ bytes.now ++ drop (length bytes.now) out.old }
-{
-    let mut i: usize = 0;
-    while i < bytes.len() {
-        out[i] = bytes[i];
-        i += 1;
-    }
-}
-
-// Bytes become 0 from an index on.
-pub fn clear(bytes: &mut [u8], from: usize)
-    requires { from ≤ length bytes.old }
-    ensures { bytes.new ≡ take from bytes.old ++ replicate (length bytes.old - from) 0 }
-{
-    let mut i = from;
-    while i < bytes.len() {
-        bytes[i] = 0;
-        i += 1;
-    }
-}
-
-// Prints bytes, if the output holds them behind what was printed.
-pub fn put(out: &mut [u8], at: Cursor, bytes: &[u8]) -> Cursor
-    ensures { Writes (put_out bytes.now) at result out.old out.new }
-{
-    let room = out.len();
-    let length = at.length;
-    let mut behind = room + 1;
-    if length <= room {
-        if bytes.len() <= room - length {
-            copy(&mut out[length..], bytes);
-            behind = length + bytes.len();
-        }
-    }
-    Cursor {
-        node: at.node,
-        comment: at.comment,
-        length: behind,
-    }
-}
-
-// Prints a part of the text.
-pub fn put_part(text: &[u8], out: &mut [u8], at: Cursor, start: u32, end: u32) -> Cursor
-    ensures { Writes (part_out text.now start end) at result out.old out.new }
-{
-    let first = start as usize;
-    let last = end as usize;
-    if text.len() < last {
-        return at;
-    }
-    if last < first {
-        return at;
-    }
-    put(out, at, &text[first..last])
-}
-
-// Prints the bytes of the next node, and passes it.
-pub fn put_token(text: &[u8], nodes: &[u32], out: &mut [u8], at: Cursor) -> Cursor
-    ensures { Writes (token_out text.now nodes.now) at result out.old out.new }
-{
-    let part = part_at(nodes, NODE_WIDTH, at.node);
-    let behind = put_part(text, out, at, part.start, part.end);
-    pass_node(behind)
-}
-
-// Prints so many spaces, or as many as the output holds.
-pub fn put_spaces(out: &mut [u8], at: Cursor, count: u32) -> Cursor
-    ensures { Writes (spaces_out count) at result out.old out.new }
-{
-    let mut length = at.length;
-    let mut spaces = count;
-    while 0 < spaces {
-        if out.len() <= length {
-            return Cursor {
-                node: at.node,
-                comment: at.comment,
-                length: out.len() + 1,
-            };
-        }
-        out[length] = b' ';
-        length += 1;
-        spaces -= 1;
-    }
-    Cursor {
-        node: at.node,
-        comment: at.comment,
-        length,
-    }
-}
-
-// The comment ahead, on a line of its own behind the indent.
-fn put_comment(text: &[u8], comments: &[u32], out: &mut [u8], at: Cursor, indent: u32) -> Cursor
-    ensures { Writes (comment_out text.now comments.now indent) at result out.old out.new }
-{
-    let part = part_at(comments, COMMENT_WIDTH, at.comment);
-    let spaced = put_spaces(out, at, indent);
-    let noted = put_part(text, out, spaced, part.start, part.end);
-    let ended = put(out, noted, b"\n");
-    pass_comment(ended)
-}
-
-// write_comments: those of the next node.
-pub fn put_comments(
-    text: &[u8],
-    comments: &[u32],
-    out: &mut [u8],
-    at: Cursor,
-    indent: u32,
-) -> Cursor
-    ensures { Writes (comments_out text.now comments.now (room comment_width comments.now) at.node indent) at result out.old out.new }
-{
-    let mut now = at;
-    let mut left = comments.len() / COMMENT_WIDTH;
-    while 0 < left {
-        if owner_at(comments, now.comment) != at.node {
-            return now;
-        }
-        now = put_comment(text, comments, out, now, indent);
-        left -= 1;
-    }
-    now
-}
-
-// Past the comments of the next node.
-pub fn pass_comments(comments: &[u32], at: Cursor) -> Cursor
-    ensures { Moves (pass_comments comments.now (room comment_width comments.now) at.node) at result }
-{
-    let mut now = at;
-    let mut left = comments.len() / COMMENT_WIDTH;
-    while 0 < left {
-        if owner_at(comments, now.comment) != at.node {
-            return now;
-        }
-        now = pass_comment(now);
-        left -= 1;
-    }
-    now
 }
 
 // Whether a node with this parent stands below the owner, or follows it there.
 fn is_below(owner: u32, parent: u32) -> bool
     ensures { result ≡ below owner parent }
 {
-    if parent < owner {
-        return false;
-    }
-    if parent == NO_PARENT {
-        return false;
-    }
-    true
+    owner <= parent && parent != NO_PARENT
 }
 
-// Past all that stands below a node.
-pub fn pass_below(nodes: &[u32], at: Cursor, owner: u32) -> Cursor
-    ensures { Moves (pass_below nodes.now (room node_width nodes.now) owner) at result }
-{
-    let mut now = at;
-    let mut left = nodes.len() / NODE_WIDTH;
-    while 0 < left {
-        if !is_below(owner, parent_at(nodes, now.node)) {
-            return now;
+impl Writer<'_> {
+    // A number of the node record ahead; 0 where the table does not hold it.
+    pub fn number(&self, k: usize) -> u32
+        ensures { result ≡ number_at node_width self.now.nodes.now self.now.at.node k }
+    {
+        if NODE_WIDTH <= k {
+            return 0;
         }
-        now = pass_node(now);
-        left -= 1;
+        or_zero(self.nodes, self.at.node as usize * NODE_WIDTH + k)
     }
-    now
+
+    // The kind's number of the node record ahead; 0 behind the last one.
+    pub fn kind_number(&self) -> u32
+        ensures { result ≡ kind_at self.now.nodes.now (room node_width self.now.nodes.now) self.now.at.node }
+    {
+        let at = self.at.node as usize * NODE_WIDTH;
+        match self.nodes.get(at..at + NODE_WIDTH) {
+            Some(record) => record[0],
+            None => 0,
+        }
+    }
+
+    // The kind of the node record ahead, if its number is a kind's.
+    pub fn kind(&self) -> Option<Kind>
+        ensures { result ≡ kind_of (kind_at self.now.nodes.now (room node_width self.now.nodes.now) self.now.at.node) }
+    {
+        Kind::try_from(self.kind_number()).ok()
+    }
+
+    // Whether the node record ahead is of this kind.
+    pub fn is(&self, kind: Kind) -> bool
+        ensures { result ≡ eqb (kind_at self.now.nodes.now (room node_width self.now.nodes.now) self.now.at.node) (number_of kind) }
+    {
+        self.kind_number() == kind.number()
+    }
+
+    // The parent of the node record ahead; none behind the last one.
+    pub fn parent(&self) -> u32
+        ensures { result ≡ parent_at node_width self.now.nodes.now (room node_width self.now.nodes.now) self.now.at.node }
+    {
+        parent_at(self.nodes, NODE_WIDTH, self.at.node)
+    }
+
+    // The owner of the comment record ahead; none behind the last one.
+    fn owner(&self) -> u32
+        ensures { result ≡ parent_at comment_width self.now.comments.now (room comment_width self.now.comments.now) self.now.at.comment }
+    {
+        parent_at(self.comments, COMMENT_WIDTH, self.at.comment)
+    }
+
+    // Past a node record.
+    pub fn pass_node(&mut self)
+        ensures { Writes (λ x. pass_node) self.old self.new }
+    {
+        self.at.node = ast::bump(self.at.node);
+    }
+
+    // Past a comment record.
+    pub fn pass_comment(&mut self)
+        ensures { Writes (λ x. pass_comment) self.old self.new }
+    {
+        self.at.comment = ast::bump(self.at.comment);
+    }
+
+    // Prints bytes, if the output holds them behind what was printed.
+    pub fn put(&mut self, bytes: &[u8])
+        ensures { Writes (λ x. put_out bytes.now) self.old self.new }
+    {
+        let room = self.out.len();
+        let length = self.at.length;
+        if length <= room && bytes.len() <= room - length {
+            copy(&mut self.out[length..], bytes);
+            self.at.length = length + bytes.len();
+        } else {
+            self.at.length = room + 1;
+        }
+    }
+
+    // Prints a part of the text, if it lies there.
+    pub fn put_part(&mut self, start: u32, end: u32)
+        ensures { Writes (λ x. part_out x.text start end) self.old self.new }
+    {
+        let text = self.text;
+        if let Some(bytes) = text.get(start as usize..end as usize) {
+            self.put(bytes);
+        }
+    }
+
+    // Prints the bytes of the next node, and passes it.
+    pub fn put_token(&mut self)
+        ensures { Writes (λ x. token_out x.text x.nodes) self.old self.new }
+    {
+        let part = part_at(self.nodes, NODE_WIDTH, self.at.node);
+        self.put_part(part.start, part.end);
+        self.pass_node();
+    }
+
+    // Prints so many spaces, or as many as the output holds.
+    pub fn put_spaces(&mut self, count: u32)
+        ensures { Writes (λ x. spaces_out count) self.old self.new }
+    {
+        for _ in 0..count {
+            self.put(b" ");
+        }
+    }
+
+    // The comment ahead, on a line of its own behind the indent.
+    fn put_comment(&mut self, indent: u32)
+        ensures { Writes (λ x. comment_out x.text x.comments indent) self.old self.new }
+    {
+        let note = part_at(self.comments, COMMENT_WIDTH, self.at.comment);
+        self.put_spaces(indent);
+        self.put_part(note.start, note.end);
+        self.put(b"\n");
+        self.pass_comment();
+    }
+
+    // write_comments: those of the next node.
+    pub fn put_comments(&mut self, indent: u32)
+        ensures { Writes (λ x p. comments_out x.text x.comments x.total p.node indent p) self.old self.new }
+    {
+        let owner = self.at.node;
+        for _ in 0..self.comments.len() / COMMENT_WIDTH {
+            if self.owner() != owner {
+                return;
+            }
+            self.put_comment(indent);
+        }
+    }
+
+    // A line for the next node: its comments, most have none, then the indent, and past the node.
+    pub fn start_line(&mut self)
+        ensures { Writes (λ x p o. then (comments_out x.text x.comments x.total p.node x.indent p o) (spaces_out x.indent ⨟ pass_node)) self.old self.new }
+    {
+        let indent = self.indent;
+        if self.owner() == self.at.node {
+            self.put_comments(indent);
+        }
+        self.put_spaces(indent);
+        self.pass_node();
+    }
+
+    // Past the comments of the next node.
+    pub fn pass_comments(&mut self)
+        ensures { Writes (λ x p. pass_comments x.comments x.total p.node p) self.old self.new }
+    {
+        let owner = self.at.node;
+        for _ in 0..self.comments.len() / COMMENT_WIDTH {
+            if self.owner() != owner {
+                return;
+            }
+            self.pass_comment();
+        }
+    }
+
+    // Past all that stands below a node.
+    pub fn pass_below(&mut self, owner: u32)
+        ensures { Writes (λ x. pass_below x.nodes x.count owner) self.old self.new }
+    {
+        for _ in 0..self.nodes.len() / NODE_WIDTH {
+            if !is_below(owner, self.parent()) {
+                return;
+            }
+            self.pass_node();
+        }
+    }
 }

@@ -9,8 +9,8 @@ use lib.ListN.{length, take, drop, length-drop}
 use lib.Seq.{length-take-le}
 use Rattle.token.specs.Scan.{scan}
 use Rattle.token.specs.Breaks.{Bytes}
-use Rattle.token.specs.declared.Scan.{Scan}
-use Rattle.token.specs.declared.Scan.TheVariants.{Miss, Hit}
+use Rattle.token.specs.Scanned.{Scan}
+use Rattle.std.specs.Prelude.{Some, None}
 use Rattle.token.proofs.Stable.{alone, bytes_take}
 use Rattle.lexer.specs.declared.location.Lexer.{Lexer}
 use Rattle.lexer.specs.Outcome.{accepted}
@@ -29,7 +29,7 @@ use Rattle.writer.proofs.Toks.{Good}
 abbrev Alone : Cuts → Type 0
 Alone end = Unit
 Alone stuck = Unit
-Alone (cut k w r cs) = Bytes w × (scan w ≡ Hit k (length w)) × Alone cs
+Alone (cut k w r cs) = Bytes w × (scan w ≡ Some (k, length w)) × Alone cs
 
 bytes_drop : (n : ℕ) (t : List ℕ) → Bytes t → Bytes (drop n t)
 bytes_drop zero t b = b
@@ -41,8 +41,8 @@ step m [] ih h b = rw cuts_nil tt
 step m (c ∷ t) ih h b = go (scan (c ∷ t)) refl
   where
     go : (s : Scan) → scan (c ∷ t) ≡ s → Alone (cuts (c ∷ t))
-    go Miss e = rw (cuts_miss (c ∷ t) (omega arith) e) tt
-    go (Hit k n) e =
+    go None e = rw (cuts_miss (c ∷ t) (omega arith) e) tt
+    go (Some (k, n)) e =
         let f = hit_fits (c ∷ t) k n e in
         let l : length (take n (c ∷ t)) ≡ n = length-take-le n (c ∷ t) f.1 in
         rw (cuts_hit (c ∷ t) k n e)

@@ -2,15 +2,14 @@
 --     rebuild   the definitions
 use mathlib.Core.Bool.{Bool, true, cond, not, ◌&&◌, ◌||◌}
 use mathlib.Core.List.{List, [], ◌∷◌}
-use mathlib.Core.Option.{Option, some, none}
+use Rattle.std.specs.Prelude.{Option, Some, None}
 use Prim.Native.Nat.{ℕ}
 use lib.Dec.{eqb, leb}
 use Rattle.token.specs.Regex.{bytes as ascii}
 use Rattle.token.specs.Scan.{scan}
 use Rattle.token.specs.declared.Token.{Token}
 use Rattle.token.specs.declared.Token.TheVariants as T
-use Rattle.token.specs.declared.Scan.{Scan}
-use Rattle.token.specs.declared.Scan.TheVariants.{Miss, Hit}
+use Rattle.token.specs.Scanned.{Scan}
 use Rattle.lexer.specs.Tokens.{Lexeme, lexeme}
 use Rattle.ast.specs.Lists.{maps}
 use Rattle.ast.specs.Ast.{
@@ -64,8 +63,8 @@ use Rattle.demand.specs.Agree.{Shape, shape, Shapes, no_shape, and_shape}
 -- ---- lexemes
 
 unfoldable pub kind_by : Scan → Token
-kind_by Miss = T.Identifier
-kind_by (Hit k n) = k
+kind_by None = T.Identifier
+kind_by (Some (k, n)) = k
 
 -- the lexeme of these bytes
 unfoldable pub spelled : List ℕ → Lexeme
@@ -94,8 +93,8 @@ select p f no_shape = []
 select p f (and_shape s ss) = cond (holds p s) (f s ∷ select p f ss) (select p f ss)
 
 unfoldable pub first : {A : Type 0} → List A → Option A
-first [] = none
-first (x ∷ xs) = some x
+first [] = None
+first (x ∷ xs) = Some x
 
 unfoldable pub anything : ℕ → ℕ → Bool
 anything k f = true
@@ -199,7 +198,7 @@ field_from i q c ts = field_with i (type_of (head ts)) (leaf_of (head (tail ts))
 
 unfoldable pub field_of : Shape → Field
 field_of (shape k f w c ts) =
-    cond (holds an_id (head ts)) (field_from (some (leaf_of (head ts))) (required_of f) (maps spelled c) (tail ts)) (field_from none (required_of f) (maps spelled c) ts)
+    cond (holds an_id (head ts)) (field_from (Some (leaf_of (head ts))) (required_of f) (maps spelled c) (tail ts)) (field_from None (required_of f) (maps spelled c) ts)
 
 unfoldable pub member_of : Shape → EnumMember
 member_of (shape k f w c ts) =
@@ -210,7 +209,7 @@ unfoldable pub oneway_by : ℕ → Bool
 oneway_by f = eqb f 4 || eqb f 12
 
 unfoldable pub throws_by : ℕ → List Field → Option (List Field)
-throws_by f th = cond (leb 8 f) (some th) none
+throws_by f th = cond (leb 8 f) (Some th) None
 
 unfoldable pub function_with : FieldType → Lexeme → ℕ → List Lexeme → Shapes → Function
 function_with t n f c r =

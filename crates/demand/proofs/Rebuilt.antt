@@ -4,7 +4,7 @@
 use mathlib.Core.Path.{◌≡◌, refl, sym, ap, ◌∙◌}
 use mathlib.Core.Bool.{Bool, true, false, cond, not}
 use mathlib.Core.List.{List, [], ◌∷◌}
-use mathlib.Core.Option.{Option, some, none}
+use Rattle.std.specs.Prelude.{Option, Some, None}
 use Prim.Native.Nat.{ℕ, ◌+◌, ◌<◌}
 use borrow.Author.Tests.{not-true}
 use lib.Dec.{T, eqb}
@@ -260,8 +260,8 @@ module _ {A B : Type 0} (p : ℕ → ℕ → Bool) (f : Shape → B) (t : A → 
 
   passed_perhaps : ((x : A) → holds p (shape_of (t x)) ≡ false) → (o : Option A) (r : Forest) → select p f (shapes_of (perhaps t o r)) ≡ select p f (shapes_of r)
   unfolding select shapes_of perhaps
-  passed_perhaps h none r = refl
-  passed_perhaps h (some x) r = rw (h x)
+  passed_perhaps h None r = refl
+  passed_perhaps h (Some x) r = rw (h x)
 
 module _ {A B : Type 0} (p : ℕ → ℕ → Bool) (f : Shape → B) (t : A → Tree) (g : A → B) (held : (x : A) → holds p (shape_of (t x)) ≡ true) where
   taken_each : {W : A → Type 0} → ((x : A) → W x → f (shape_of (t x)) ≡ g x) → {xs : List A} → All W xs → (r : Forest) → select p f (shapes_of r) ≡ []
@@ -273,8 +273,8 @@ module _ {A B : Type 0} (p : ℕ → ℕ → Bool) (f : Shape → B) (t : A → 
   taken_perhaps : (o : Option A) → opt (λ (x : A). f (shape_of (t x))) o ≡ opt g o → (r : Forest) → select p f (shapes_of r) ≡ []
       → first (select p f (shapes_of (perhaps t o r))) ≡ opt g o
   unfolding select shapes_of perhaps opt first
-  taken_perhaps none b r e = rw e
-  taken_perhaps (some x) b r e = rw (held x) b
+  taken_perhaps None b r e = rw e
+  taken_perhaps (Some x) b r e = rw (held x) b
 
 -- ---- annotations
 
@@ -367,7 +367,7 @@ default_back {v = v} d a =
   where
     go : {v : Option FieldInitialValue} → W.WfDefault Good v → opt (λ (x : FieldInitialValue). value_of (shape_of (value_tree x))) v ≡ opt forget_value v
     go W.wnone = refl
-    go (W.wsome h) = ap some (value_back h)
+    go (W.wsome h) = ap Some (value_back h)
 
 -- an id is told from a type
 id_here : (t : Lexeme) → holds an_id (shape_of (id_tree t)) ≡ true
@@ -402,7 +402,7 @@ option_back : {ks : List Token} (t : Lexeme → Tree) → ((x : Lexeme) → Tok 
     → opt (λ (x : Lexeme). leaf_of (shape_of (t x))) o ≡ opt bare_l o
 unfolding opt
 option_back t h W.wnothing = refl
-option_back t h (W.wjust {t = x} g) = ap some (h x g)
+option_back t h (W.wjust {t = x} g) = ap Some (h x g)
 
 member_back : {x : EnumMember} → W.WfMember Good x → member_of (shape_of (member_tree x)) ≡ forget_member x
 unfolding member_of head tail shape_of shapes_of member_tree move_member no_annotations
@@ -443,13 +443,13 @@ fields_back h r e = taken_each a_field field_of (field_tree 0) forget_field plai
 module _ (a : Annotations) where
   no_parameters : (th : Option (List Field)) → select a_field field_of (shapes_of (throws_trees th (annotations_tree a bare))) ≡ []
   unfolding throws_trees a_field
-  no_parameters none = none_in field_of a_field refl a
-  no_parameters (some fs) = passed_each a_field field_of (field_tree 16) thrown_not_plain fs (annotations_tree a bare) ∙ none_in field_of a_field refl a
+  no_parameters None = none_in field_of a_field refl a
+  no_parameters (Some fs) = passed_each a_field field_of (field_tree 16) thrown_not_plain fs (annotations_tree a bare) ∙ none_in field_of a_field refl a
 
   behind_throws : (th : Option (List Field)) → annotations_in (shapes_of (throws_trees th (annotations_tree a bare))) ≡ annotations_in (shapes_of (annotations_tree a bare))
   unfolding throws_trees
-  behind_throws none = refl
-  behind_throws (some fs) = behind_each (field_tree 16) (field_other 16) fs (annotations_tree a bare)
+  behind_throws None = refl
+  behind_throws (Some fs) = behind_each (field_tree 16) (field_other 16) fs (annotations_tree a bare)
 
   thrown_back : (ps : List Field) {fs : List Field} → All (W.WfField Good) fs
       → select a_thrown field_of (shapes_of (each (field_tree 0) ps (each (field_tree 16) fs (annotations_tree a bare)))) ≡ maps forget_field fs
@@ -463,15 +463,15 @@ module _ (a : Annotations) where
   unfolding throws_by oneway_flag throws_flag throws_trees opt
   throws_back true W.wquiet ps = refl
   throws_back false W.wquiet ps = refl
-  throws_back true (W.wthrows g h) ps = ap some (thrown_back ps g)
-  throws_back false (W.wthrows g h) ps = ap some (thrown_back ps g)
+  throws_back true (W.wthrows g h) ps = ap Some (thrown_back ps g)
+  throws_back false (W.wthrows g h) ps = ap Some (thrown_back ps g)
 
 oneway_back : (o : Bool) (th : Option (List Field)) → oneway_by (oneway_flag o + throws_flag th) ≡ o
 unfolding oneway_by oneway_flag throws_flag
-oneway_back true none = refl
-oneway_back true (some th) = refl
-oneway_back false none = refl
-oneway_back false (some th) = refl
+oneway_back true None = refl
+oneway_back true (Some th) = refl
+oneway_back false None = refl
+oneway_back false (Some th) = refl
 
 function_back : {x : Function} → W.WfFunction Good x → function_of (shape_of (function_tree x)) ≡ forget_function x
 unfolding function_of function_with head tail shape_of shapes_of function_tree move_function

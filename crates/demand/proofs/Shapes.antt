@@ -2,7 +2,7 @@
 --     shapes_forget   without places the definitions have the same shapes
 use mathlib.Core.Path.{◌≡◌, refl}
 use mathlib.Core.List.{List, [], ◌∷◌}
-use mathlib.Core.Option.{Option, some, none}
+use Rattle.std.specs.Prelude.{Option, Some, None}
 use Prim.Native.Nat.{ℕ}
 use Rattle.lexer.specs.Tokens.{Lexeme, lexeme}
 use Rattle.ast.specs.Lists.{maps, opt}
@@ -90,8 +90,8 @@ module _ {A : Type 0} (t : A → Tree) (g : A → A) (one : (x : A) → shape_of
 
   perhaps_same : (o : Option A) {r q : Forest} → Same r q → Same (perhaps t (opt g o) r) (perhaps t o q)
   unfolding shapes_of perhaps opt
-  perhaps_same none e = e
-  perhaps_same (some x) e = record { same = cc (one x) }
+  perhaps_same None e = e
+  perhaps_same (Some x) e = record { same = cc (one x) }
 
 -- ---- lexemes
 
@@ -154,9 +154,9 @@ annotations_same (annotations l xs) = record { same = cc (each_same annotation_t
 
 field_same : (f : ℕ) (x : Field) → shape_of (field_tree f (forget_field x)) ≡ shape_of (field_tree f x)
 unfolding shape_of shapes_of field_tree move_field perhaps opt
-field_same f (field l c none r t n v a) =
+field_same f (field l c None r t n v a) =
     cc (notes_same c, type_same t, name_same n, (perhaps_same value_tree forget_value value_same v (annotations_same a)).same)
-field_same f (field l c (some i) r t n v a) =
+field_same f (field l c (Some i) r t n v a) =
     cc (notes_same c, id_same i, type_same t, name_same n, (perhaps_same value_tree forget_value value_same v (annotations_same a)).same)
 
 member_same : (x : EnumMember) → shape_of (member_tree (forget_member x)) ≡ shape_of (member_tree x)
@@ -165,9 +165,9 @@ member_same (member l c n v a) = cc (notes_same c, name_same n, (perhaps_same li
 
 function_same : (x : Function) → shape_of (function_tree (forget_function x)) ≡ shape_of (function_tree x)
 unfolding shape_of shapes_of function_tree move_function throws_flag throws_trees opt
-function_same (function l c o t n ps none a) =
+function_same (function l c o t n ps None a) =
     cc (notes_same c, type_same t, name_same n, (each_same (field_tree 0) forget_field (field_same 0) ps (annotations_same a)).same)
-function_same (function l c o t n ps (some th) a) =
+function_same (function l c o t n ps (Some th) a) =
     cc
     (notes_same c, type_same t, name_same n, (each_same (field_tree 0) forget_field (field_same 0) ps (each_same (field_tree 16) forget_field (field_same 16) th (annotations_same a))).same)
 

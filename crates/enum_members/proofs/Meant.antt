@@ -6,7 +6,8 @@
 use mathlib.Core.Path.{◌≡◌, refl, ap, ◌∙◌}
 use mathlib.Core.Bool.{Bool, true, false, cond}
 use mathlib.Core.List.{List, [], ◌∷◌, ◌++◌}
-use mathlib.Core.Option.{Option, some, none}
+use Rattle.std.specs.Prelude.{Option, Some, None}
+use Rattle.std.specs.Prelude.{Option, Some, None}
 use Prim.Native.Nat.{ℕ, suc, ◌+◌, ◌-◌, ◌≤◌, ◌<◌}
 use native.Mathlib.Omega.{arith}
 use borrow.Author.Tests.{lt-ltb, le-ltb, ltb-false}
@@ -66,8 +67,6 @@ use Rattle.ast.specs.Largest.{largest, bump}
 use Rattle.ast.specs.Records.{no_parent, size, sizes, forest}
 use Rattle.parser.specs.Steps.{bytes, place}
 use Rattle.parser.proofs.KindLaws.{all, same, agree}
-use Rattle.number.specs.declared.Value.{Value}
-use Rattle.number.specs.declared.Value.TheVariants.{Is, Outside}
 use Rattle.number.specs.Value.{integer, hex, value, i32, fitted}
 use Rattle.records.specs.Table.{Shown, File, kind_in, roots, is_token, spelled, Spelled, smore}
 use Rattle.records.proofs.ShownLaws.{
@@ -194,11 +193,11 @@ module _ (text nodes : List ℕ) where
           Spelled text (perhaps literal_tree v (annotations_tree a bare)) →
           cond (ltb (suc n + 1) (n + suc (1 + sizes (perhaps literal_tree v (annotations_tree a bare)))))
           (cond (eqb (kind_in nodes (suc n + 1)) K.Annotations) (fitted z) (value_at text nodes (suc n + 1))) (fitted z) ≡ fitted (number z v)
-      by (some t) a r q =
+      by (Some t) a r q =
           let h : suc n + 1 < n + suc (1 + (size (literal_tree t) + sizes (annotations_tree a bare))) = omega (arith, literal_size t) in
           rw (lt-ltb _ _ h, literal_kind t r) (value_shown t r q)
-      by none absent r q = rw (le-ltb (suc n + 1) (n + suc (1 + 0)) (omega arith))
-      by none (annotations m xs) r q =
+      by None absent r q = rw (le-ltb (suc n + 1) (n + suc (1 + 0)) (omega arith))
+      by None (annotations m xs) r q =
           let e = size (inner K.Annotations m (each annotation_tree xs bare)) in
           rw (lt-ltb (suc n + 1) (n + suc (1 + (e + 0))) (omega arith), kind_is r)
 
@@ -219,12 +218,12 @@ module _ (text nodes : List ℕ) where
       Shown nodes n p (grown (member_tree (member l c y v a)) us) → Spelled text (grown (member_tree (member l c y v a)) us) →
       (x : Walk) (list : List ℤ) → x.ahead ≡ fitted z → child_in text nodes n (at x list) ≡ put_in nodes n (fitted (number z v)) (at x list)
   unfolding child_in member_tree
-  member_put {n = n} l c y v a z s o x list e = rw (kind_is s) (ap (λ (u : Value). put_in nodes n u (at x list)) (ap (member_at text nodes n) e ∙ number_shown l c y v a z s o))
+  member_put {n = n} l c y v a z s o x list e = rw (kind_is s) (ap (λ (u : Option ℤ). put_in nodes n u (at x list)) (ap (member_at text nodes n) e ∙ number_shown l c y v a z s o))
 
   -- 28 at its name
   member_off : {n p : ℕ} {us : Forest} (l : LOC) (c : List Lexeme) (y : Lexeme) (v : Option Lexeme) (a : Annotations) →
       Shown nodes n p (grown (member_tree (member l c y v a)) us) → (x : Walk) (list : List ℤ) →
-      finished (put_in nodes n Outside (at x list)) ≡ refusing EnumNumberOutside (place y).start.index ((place y).end.index - (place y).start.index) list
+      finished (put_in nodes n None (at x list)) ≡ refusing EnumNumberOutside (place y).start.index ((place y).end.index - (place y).start.index) list
   unfolding member_tree name_tree put_in finished
   member_off l c y v a s x list = rw (bump_is s, leaf_start K.Name y (children s), leaf_end K.Name y (children s))
 
@@ -236,7 +235,7 @@ module _ (text nodes : List ℕ) where
   member_means : {n p : ℕ} {us : Forest} (l : LOC) (c : List Lexeme) (y : Lexeme) (v : Option Lexeme) (a : Annotations) →
       Shown nodes n p (grown (member_tree (member l c y v a)) us) → (num : ℤ) (x : Walk) (list : List ℤ) → x.members ≤ n → (r : W) (R : Numbers) →
       ((w : Walk) (u : List ℤ) → w.ahead ≡ fitted (suc_ℤ num) → w.members ≤ n + 1 → finished (r (at w u)) ≡ ended R w.members u) → (b : Bool) →
-      finished (then (put_in nodes n (cond b (Is num) Outside) (at x list)) r) ≡ ended (cond b (before num R) (outside y)) x.members list
+      finished (then (put_in nodes n (cond b (Some num) None) (at x list)) r) ≡ ended (cond b (before num R) (outside y)) x.members list
   unfolding then put_in ended member_tree
   member_means {n = n} l c y v a s num x list h r R g true =
       let m = x.members in
@@ -270,7 +269,7 @@ module _ (text nodes : List ℕ) where
   unfolding name_tree
   name_beside y s = leaf_beside K.Name y s
 
-  zero_fits : Is (pos 0) ≡ fitted (pos 0)
+  zero_fits : Some (pos 0) ≡ fitted (pos 0)
   unfolding fitted i32
   zero_fits = refl
 
@@ -290,7 +289,7 @@ module _ (text nodes : List ℕ) where
       finished (then (definition_in text nodes n (at x list)) k) ≡ ended (of_members (pos 0) ms others) x.members list
   unfolding definition_tree definition_in members_in roots each_in then size
   enum_means {n = n} l c y ms a s o x list h k others g =
-      let w : Walk = record { ahead = Is (pos 0); members = x.members } in
+      let w : Walk = record { ahead = Some (pos 0); members = x.members } in
       let i = children s in
       rw (kind_is s, children_are s, name_passed y i w list, name_size y)
       (members_mean ms a (name_beside y i) (tail (within_node o)) (pos 0) w list zero_fits (omega arith) (n + suc (1 + sizes (each member_tree ms (annotations_tree a bare)))) (omega arith) k others
@@ -320,4 +319,4 @@ module _ (text nodes : List ℕ) where
   walk_means count ds list f =
       let e : count ≡ 0 + sizes (forest ds) = omega (arith, f.counts) in
       rw (e, roots_are (forest ds) f.shown)
-      (roots_mean ds f.shown f.spells (record { ahead = Is (pos 0); members = 0 }) list (omega arith) ∙ ended_start (member_numbers ds) list)
+      (roots_mean ds f.shown f.spells (record { ahead = Some (pos 0); members = 0 }) list (omega arith) ∙ ended_start (member_numbers ds) list)

@@ -1,15 +1,15 @@
 -- The number behind each enum member (document 02, Change 2).
-use Rattle.std.specs.Prelude.{cond, List, [], ◌∷◌, ◌++◌, ℕ, ◌-◌, ltb, length, replicate, ℤ, pos}
-use Rattle.std.proofs.Math.Option.{Option, some, none}
+use Rattle.std.specs.Prelude.{cond, List, [], ◌∷◌, ◌++◌, ℕ, ◌-◌, ltb, length, replicate, ℤ, pos, Result}
+use Rattle.std.specs.Prelude.{Option, Some, None}
 use Rattle.std.proofs.Math.IntN.{suc_ℤ}
 use Rattle.lexer.specs.Error.{NodesFull, EnumNumberOutside}
 use Rattle.lexer.specs.Outcome.{Outcome, accepted, refused}
+use Rattle.lexer.specs.Refusal.{said_by}
+use Rattle.lexer.specs.declared.error.Refusal.{Refusal}
 use Rattle.lexer.specs.Tokens.{Lexeme}
 use Rattle.number.specs.Value.{value, i32}
 use Rattle.ast.specs.Ast.{EnumMember, member, Definition, Include, CppInclude, Namespace, Const, Typedef, Enum, structure, Service}
 use Rattle.parser.specs.Steps.{place}
-use Rattle.enum_members.specs.declared.Numbered.{Numbered}
-use Rattle.enum_members.specs.declared.Numbered.TheVariants.{Accepted, Refused}
 
 -- every member's number; or the name of the first member whose number is outside the range
 pub data Numbers : Type 0 where
@@ -22,8 +22,8 @@ before x (outside n) = outside n
 
 -- 'A written integer or hex digit string is that number, hex read as unsigned. A member without one gets the previous plus one': the one ahead
 unfoldable pub number : ℤ → Option Lexeme → ℤ
-number ahead none = ahead
-number ahead (some t) = value t
+number ahead None = ahead
+number ahead (Some t) = value t
 
 -- the members of an enum, before others: '-2147483648 and 2147483647 are numbers; the member after 2147483647 without its own is refused'
 unfoldable pub of_members : ℤ → List EnumMember → Numbers → Numbers
@@ -61,11 +61,6 @@ unfoldable pub listed : Outcome (List ℕ) → List ℤ → List ℤ → List �
 listed (accepted ns) xs list = xs ++ replicate (length list - length xs) (pos 0)
 listed (refused e p n) xs list = cleared list
 
--- what each case of the code's answer says
-unfoldable pub said : Numbered → Outcome (List ℕ)
-said (Accepted n) = accepted (n ∷ [])
-said (Refused e p n) = refused e p n
-
 -- what numbering the members answers, and the list afterwards
 pub record Listing : Type 0 where
   pub says : Outcome (List ℕ)
@@ -75,5 +70,5 @@ unfoldable pub listing : Numbers → List ℤ → Listing
 listing ns list = let a = counted ns list in record { says = a; list = listed a (numbers_of ns) list }
 
 -- the code's answer and the list, as a listing
-abbrev pub told : Numbered → List ℤ → Listing
-told r list = record { says = said r; list = list }
+abbrev pub told : Result ℕ Refusal → List ℤ → Listing
+told r list = record { says = said_by (λ n. n ∷ []) r; list = list }

@@ -1,6 +1,4 @@
 -- What the code does is the numbering of the text.
---     refused_is        all wiped
---     judged_accepted, judged_refused   by what the members gave
 --     refused_means     the reading refused the text
 --     accepted_means    the reading accepted it, and its members were numbered
 use mathlib.Core.Path.{◌≡◌, sym, ap, ◌∙◌}
@@ -12,35 +10,19 @@ use Rattle.lexer.specs.Outcome.{Outcome, accepted, refused}
 use Rattle.ast.specs.Ast.{Definition}
 use Rattle.ast.specs.Records.{node_rows, notes}
 use Rattle.ast.proofs.Counts.{cleared_same}
-use Rattle.parser.specs.declared.Answer.{Answer}
-use Rattle.parser.specs.declared.Answer.TheVariants as A
+use Rattle.parser.specs.declared.Counts.{Counts}
+use Rattle.parser.specs.Read.{Answer}
 use Rattle.parser.specs.Read.{outcome, answer, after, left, rows_by, reading, told as read_told}
-use Rattle.steps.specs.Into.{wiped}
-use Rattle.steps.proofs.Cells.{wipe_all}
 use Rattle.records.specs.Table.{File}
 use Rattle.records.proofs.RecordLaws.{cleared_twice}
 use Rattle.records.proofs.Reading.{Accepts, read_refused, read_accepted}
-use Rattle.enum_members.specs.declared.Numbered.{Numbered}
-use Rattle.enum_members.specs.declared.Numbered.TheVariants.{Accepted, Refused}
+use Rattle.std.specs.Prelude.{Result, Ok, Err}
+use Rattle.lexer.specs.Refusal.{number_of, said_by}
+use Rattle.lexer.specs.declared.error.Refusal.{Refusal}
 use Rattle.enum_members.specs.Numbers as E
-use Rattle.enum_members.specs.Numbers.{member_numbers, counted, numbers_of, listed, said, Listing, listing}
-use Rattle.enum_members.specs.Walk as W
-use Rattle.enum_members.proofs.WalkLaws as L
-use Rattle.enum_numbers.specs.Numbering.{numbers_by, Numbering, told, numbering}
+use Rattle.enum_members.specs.Numbers.{member_numbers, counted, numbers_of, listed, Listing, listing}
+use Rattle.enum_numbers.specs.Numbering.{numbers_by, numbering}
 use Rattle.enum_numbers.specs.Whole.{refusing, judged}
-
-pub refused_is : (e p n : ℕ) (t u t' u' : List ℕ) (l l' : List ℤ) → t' ≡ wiped 0 t → u' ≡ wiped 0 u → l' ≡ W.wiped 0 l → told (Refused e p n) t' u' l' ≡ refusing e p n t u l
-unfolding refusing said
-refused_is e p n t u t' u' l l' h k g = rw (h, k, g, wipe_all, wipe_all, L.wipe_all)
-
-module _ (ns cs : List ℕ) (list : List ℤ) (r : Numbered) where
-  pub judged_accepted : (m : ℕ) → r ≡ Accepted m → told (Accepted m) ns cs list ≡ judged r ns cs list
-  unfolding judged
-  judged_accepted m e = rw e
-
-  pub judged_refused : (e p n : ℕ) (z : Numbering) → r ≡ Refused e p n → z ≡ refusing e p n ns cs list → z ≡ judged r ns cs list
-  unfolding judged
-  judged_refused e p n z h k = rw h k
 
 list_twice : (l : List ℤ) → E.cleared (E.cleared l) ≡ E.cleared l
 unfolding E.cleared
@@ -53,26 +35,26 @@ module _ (t ns cs : List ℕ) (list : List ℤ) where
   unfolding numbering numbers_by after rows_by
   given ds f q x e = rw (q, f, e)
 
-  by_members : {n c : ℕ} {ns₁ cs₁ : List ℕ} (q : Accepts t ns cs n c ns₁ cs₁) (m : Numbered) (list₁ : List ℤ) → E.told m list₁ ≡ listing (member_numbers q.ds) list →
+  by_members : {n c : ℕ} {ns₁ cs₁ : List ℕ} (q : Accepts t ns cs n c ns₁ cs₁) (m : Result ℕ Refusal) (list₁ : List ℤ) → E.told m list₁ ≡ listing (member_numbers q.ds) list →
       judged m ns₁ cs₁ list₁ ≡ numbering t ns cs list
-  unfolding judged refusing said left listing listed
-  by_members q (Accepted k) list₁ e =
+  unfolding judged refusing said_by left listing listed
+  by_members q (Ok k) list₁ e =
       let x : counted (member_numbers q.ds) list ≡ accepted (k ∷ []) = sym (ap (λ (z : Listing). z.says) e) in
       let y : list₁ ≡ listed (accepted (k ∷ [])) (numbers_of (member_numbers q.ds)) list =
       ap (λ (z : Listing). z.list) e ∙ ap (λ (z : Outcome (List ℕ)). listed z (numbers_of (member_numbers q.ds)) list) x in
       rw (q.nodes, q.comments, y) (given q.ds q.found q.answers (accepted (k ∷ [])) x)
-  by_members {ns₁ = ns₁} {cs₁ = cs₁} q (Refused e p l) list₁ f =
-      let x : counted (member_numbers q.ds) list ≡ refused e p l = sym (ap (λ (z : Listing). z.says) f) in
+  by_members {ns₁ = ns₁} {cs₁ = cs₁} q (Err r) list₁ f =
+      let x : counted (member_numbers q.ds) list ≡ refused (number_of r.kind) r.place r.length = sym (ap (λ (z : Listing). z.says) f) in
       let y : list₁ ≡ E.cleared list = ap (λ (z : Listing). z.list) f ∙ ap (λ (z : Outcome (List ℕ)). listed z (numbers_of (member_numbers q.ds)) list) x in
-      rw (cleared_same ns ns₁ q.long, cleared_same cs cs₁ q.broad, y, list_twice list) (given q.ds q.found q.answers (refused e p l) x)
+      rw (cleared_same ns ns₁ q.long, cleared_same cs cs₁ q.broad, y, list_twice list) (given q.ds q.found q.answers (refused (number_of r.kind) r.place r.length) x)
 
   module _ (a : Answer) (ns₁ cs₁ : List ℕ) (r : read_told a ns₁ cs₁ ≡ reading t ns cs) where
-    pub refused_means : (e p n : ℕ) → a ≡ A.Refused e p n → refusing e p n ns₁ cs₁ list ≡ numbering t ns cs list
+    pub refused_means : (f : Refusal) → a ≡ Err f → refusing (number_of f.kind) f.place f.length ns₁ cs₁ list ≡ numbering t ns cs list
     unfolding refusing numbering after left listed
-    refused_means e p n h =
+    refused_means f h =
         let q = read_refused t ns cs a ns₁ cs₁ r h in
         rw (q.answers, q.nodes, q.comments, cleared_twice ns, cleared_twice cs)
 
-    pub accepted_means : (n c : ℕ) → a ≡ A.Accepted n c → (m : Numbered) (list₁ : List ℤ) →
-        ((ds : List Definition) → File t ns₁ n ds → E.told m list₁ ≡ listing (member_numbers ds) list) → judged m ns₁ cs₁ list₁ ≡ numbering t ns cs list
-    accepted_means n c h m list₁ g = let q = read_accepted t ns cs a ns₁ cs₁ r h in by_members q m list₁ (g q.ds q.file)
+    pub accepted_means : (k : Counts) → a ≡ Ok k → (m : Result ℕ Refusal) (list₁ : List ℤ) →
+        ((ds : List Definition) → File t ns₁ k.nodes ds → E.told m list₁ ≡ listing (member_numbers ds) list) → judged m ns₁ cs₁ list₁ ≡ numbering t ns cs list
+    accepted_means k h m list₁ g = let q = read_accepted t ns cs a ns₁ cs₁ r h in by_members q m list₁ (g q.ds q.file)

@@ -1,11 +1,12 @@
 -- The numbers of a text's enum members as a whole call: the reading's refusals first, its 24 and 25 among them, then 28, then 24 for the list; any text, tables and list.
-use Rattle.std.specs.Prelude.{List, [], ℕ, ℤ}
+use Rattle.std.specs.Prelude.{List, [], ◌∷◌, ℕ, ℤ, Result}
+use Rattle.lexer.specs.Refusal.{said_by}
 use Rattle.lexer.specs.Outcome.{Outcome, accepted, refused}
+use Rattle.lexer.specs.declared.error.Refusal.{Refusal}
 use Rattle.ast.specs.Ast.{Definition}
 use Rattle.ast.specs.Records.{node_rows, notes}
 use Rattle.parser.specs.Read.{outcome, answer, after, left, rows_by}
-use Rattle.enum_members.specs.declared.Numbered.{Numbered}
-use Rattle.enum_members.specs.Numbers.{Numbers, numbers, member_numbers, counted, numbers_of, listed, said}
+use Rattle.enum_members.specs.Numbers.{Numbers, numbers, member_numbers, counted, numbers_of, listed}
 
 unfoldable pub numbers_by : Outcome (List Definition) → Numbers
 numbers_by (accepted ds) = member_numbers ds
@@ -19,8 +20,8 @@ pub record Numbering : Type 0 where
   pub list : List ℤ
 
 -- the code's answer, both tables and the list, as a numbering
-abbrev pub told : Numbered → List ℕ → List ℕ → List ℤ → Numbering
-told r ns cs list = record { says = said r; nodes = ns; comments = cs; list = list }
+abbrev pub told : Result ℕ Refusal → List ℕ → List ℕ → List ℤ → Numbering
+told r ns cs list = record { says = said_by (λ n. n ∷ []) r; nodes = ns; comments = cs; list = list }
 
 unfoldable pub numbering : List ℕ → List ℕ → List ℕ → List ℤ → Numbering
 numbering t ns cs list =

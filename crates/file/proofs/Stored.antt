@@ -10,21 +10,24 @@
 use mathlib.Core.Path.{◌≡◌, refl, sym, ap, ◌∙◌}
 use mathlib.Core.Bool.{Bool, true, false, cond, not, false≢true}
 use mathlib.Core.List.{List, [], ◌∷◌, ◌++◌}
-use Prim.Native.Nat.{ℕ, suc, ◌+◌, ◌-◌, ◌≤◌, ◌<◌, min}
+use Prim.Native.Nat.{ℕ, ◌+◌, ◌-◌, ◌≤◌, ◌<◌, min}
 use native.Mathlib.Omega.{arith}
 use lib.Dec.{eqb, leb, ltb}
 use borrow.Author.Tests.{leb-true, leb-false, le-leb, lt-leb}
-use lib.ListN.{length, take, drop, get_or, replicate, length-append, length-take, length-drop, length-replicate, drop_of_length-le}
-use lib.Seq.{take_all, take_at, drop-cons, length-take-le}
+use lib.ListN.{length, take, drop, get_or, replicate, length-append, length-take, length-replicate, drop_of_length-le}
+use lib.Seq.{take_all, take_at, length-take-le}
 use Rattle.lexer.specs.Outcome.{Outcome, accepted, refused}
 use Rattle.ast.specs.Records.{comment_width, node_width, node_rows, notes, room}
-use Rattle.parser.specs.declared.Answer.{Answer}
+use Rattle.parser.specs.Read.{Answer}
 use Rattle.ast.specs.Ast.{Definition}
 use Rattle.parser.specs.Read.{fitted, Reading, reading}
 use Rattle.parser.specs.Read.{told as read_told}
 use Rattle.writer.specs.Print.{printed}
-use Rattle.writer.specs.declared.Printed.{Printed}
-use Rattle.writer.specs.declared.Printed.TheVariants.{Accepted, Refused}
+use Rattle.std.specs.Prelude.{Ok, Err}
+use Rattle.lexer.specs.Refusal.{said_by}
+use Rattle.lexer.specs.declared.error.Refusal.{Refusal}
+use Rattle.writer.specs.declared.Print.{Print}
+use Rattle.writer.specs.Write.{Printed}
 use Rattle.writer.specs.Write as W
 use Rattle.writer.specs.Write.{Printing, said, told, bytes_written, outcome_at, print_of, printing}
 use Rattle.demand.specs.Calls.{has_printed, gives}
@@ -73,22 +76,22 @@ read_is text ns cs ns' cs' a b x y r k l e =
 -- ---- store
 
 module _ (p : Printed) (out : List ℕ) (f : File) where
-  pub store_refused : (e l n : ℕ) → p ≡ Refused e l n → f ≡ kept_in (said p) out f
-  unfolding kept_in said
-  store_refused e l n h = rw h
+  pub store_refused : (r : Refusal) → p ≡ Err r → f ≡ kept_in (said p) out f
+  unfolding kept_in said_by
+  store_refused r h = rw h
 
-  module _ (n c b : ℕ) (h : p ≡ Accepted n c b) where
-    pub store_long : length f.space < b → f ≡ kept_in (said p) out f
-    unfolding kept_in said
-    store_long l = rw (h, lt-leb b (length f.space) l)
+  module _ (q : Print) (h : p ≡ Ok q) where
+    pub store_long : length f.space < q.bytes → f ≡ kept_in (said p) out f
+    unfolding kept_in said_by
+    store_long l = rw (h, lt-leb q.bytes (length f.space) l)
 
-    pub store_in : (copied space' : List ℕ) → b ≤ length f.space → b ≤ length out → copied ≡ take b out ++ drop (length (take b out)) f.space
-        → length copied ≡ length f.space → space' ≡ take b copied ++ replicate (length copied - b) 0 → file_of b space' ≡ kept_in (said p) out f
-    unfolding kept_in said W.written
+    pub store_in : (copied space' : List ℕ) → q.bytes ≤ length f.space → q.bytes ≤ length out → copied ≡ take q.bytes out ++ drop (length (take q.bytes out)) f.space
+        → length copied ≡ length f.space → space' ≡ take q.bytes copied ++ replicate (length copied - q.bytes) 0 → file_of q.bytes space' ≡ kept_in (said p) out f
+    unfolding kept_in said_by W.written
     store_in copied space' l k e s w =
-        let t : length (take b out) ≡ b = length-take-le b out k in
-        let u : take b copied ≡ take b out = ap (take b) e ∙ take_at (take b out) (drop (length (take b out)) f.space) b t in
-        rw (h, le-leb b (length f.space) l, w, u, s, t)
+        let t : length (take q.bytes out) ≡ q.bytes = length-take-le q.bytes out k in
+        let u : take q.bytes copied ≡ take q.bytes out = ap (take q.bytes) e ∙ take_at (take q.bytes out) (drop (length (take q.bytes out)) f.space) q.bytes t in
+        rw (h, le-leb q.bytes (length f.space) l, w, u, s, t)
 
 -- ---- print_file
 
@@ -140,11 +143,11 @@ module _ (out out' : List ℕ) (z : ℕ) (h : length out' ≡ length (take z out
 
   pub written_in : (t : List ℕ) (indent : ℕ) (ns cs ns' cs' : List ℕ) (p : Printed)
       → told p ns' cs' out' ≡ printing t indent ns cs (take z out)
-      → (n c b : ℕ) → p ≡ Accepted n c b → b ≤ length (take z (out' ++ drop z out))
-  unfolding said
-  written_in t indent ns cs ns' cs' p e n c b q =
+      → (b : Print) → p ≡ Ok b → b.bytes ≤ length (take z (out' ++ drop z out))
+  unfolding said_by
+  written_in t indent ns cs ns' cs' p e b q =
       rw lent_out
-      (rw (ap (λ (w : Printing). w.output) e) (printing_in t indent ns cs (take z out) (n ∷ c ∷ b ∷ []) (sym (ap (λ (w : Printing). w.says) e) ∙ ap said q)))
+      (rw (ap (λ (w : Printing). w.output) e) (printing_in t indent ns cs (take z out) (b.nodes ∷ b.comments ∷ b.bytes ∷ []) (sym (ap (λ (w : Printing). w.says) e) ∙ ap said q)))
 
 pub print_is : (space space' ns ns' cs cs' out out' : List ℕ) (file indent a b c x y z r : ℕ) (p : Printed)
     → x ≡ min a (length ns) → y ≡ min b (length cs) → z ≡ min c (length out)
@@ -213,19 +216,14 @@ space_long indent (ask false a b c) m = refl
 
 -- ---- run
 
-request_at : (i : ℕ) (r : List ℕ) → i + 4 ≤ length r
-    → requests_of (drop i r) ≡ ask (not (eqb (get_or r i 0) 0)) (get_or r (i + 1) 0) (get_or r (i + 2) 0) (get_or r (i + 3) 0) ∷ requests_of (drop (i + 4) r)
+first_request : (r : List ℕ) → 4 ≤ length r
+    → requests_of r ≡ ask (not (eqb (get_or (take 4 r) 0 0) 0)) (get_or (take 4 r) 1 0) (get_or (take 4 r) 2 0) (get_or (take 4 r) 3 0) ∷ requests_of (drop 4 r)
 unfolding requests_of
-request_at i r h =
-    let e1 : i + 1 ≡ suc i = omega arith in
-    let e2 : i + 2 ≡ suc (suc i) = omega arith in
-    let e3 : i + 3 ≡ suc (suc (suc i)) = omega arith in
-    let e4 : i + 4 ≡ suc (suc (suc (suc i))) = omega arith in
-    let l0 : i < length r = omega arith in
-    let l1 : suc i < length r = omega arith in
-    let l2 : suc (suc i) < length r = omega arith in
-    let l3 : suc (suc (suc i)) < length r = omega arith in
-    rw (e1, e2, e3, e4, drop-cons r i 0 l0, drop-cons r (suc i) 0 l1, drop-cons r (suc (suc i)) 0 l2, drop-cons r (suc (suc (suc i))) 0 l3)
+first_request [] h = absurd (omega arith)
+first_request (k ∷ []) h = absurd (omega arith)
+first_request (k ∷ a ∷ []) h = absurd (omega arith)
+first_request (k ∷ a ∷ b ∷ []) h = absurd (omega arith)
+first_request (k ∷ a ∷ b ∷ c ∷ r) h = refl
 
 few_left : (r : List ℕ) → length r < 4 → requests_of r ≡ []
 unfolding requests_of
@@ -243,17 +241,20 @@ pub turned_in : (indent : ℕ) (q : Request) (m next : Memory) → m.file.size �
     → length next.file.space ≡ length m.file.space → next.file.size ≤ length next.file.space
 turned_in indent q m next h e l = rw (ap (λ (x : Memory). x.file.size) e, l) (size_in indent q m h)
 
-module _ (indent i : ℕ) (r : List ℕ) (m m' : Memory) where
-  pub turn : i + 4 ≤ length r → runs indent (requests_of (drop i r)) m ≡ m'
-      → (next : Memory) (q : Request) → q ≡ ask (not (eqb (get_or r i 0) 0)) (get_or r (i + 1) 0) (get_or r (i + 2) 0) (get_or r (i + 3) 0) → next ≡ after indent q m
-      → runs indent (requests_of (drop (i + 4) r)) next ≡ m'
+module _ (indent : ℕ) (r : List ℕ) (m m' : Memory) where
+  pub turn : runs indent (requests_of r) m ≡ m'
+      → (ns rest : List ℕ) → (ns ≡ take 4 r) × (rest ≡ drop 4 r) × (length rest + 4 ≡ length r)
+      → (next : Memory) (q : Request) → q ≡ ask (not (eqb (get_or ns 0 0) 0)) (get_or ns 1 0) (get_or ns 2 0) (get_or ns 3 0) → next ≡ after indent q m
+      → runs indent (requests_of rest) next ≡ m'
   unfolding runs
-  turn h e next q l f =
-      ap (runs indent (requests_of (drop (i + 4) r))) (f ∙ ap (λ (x : Request). after indent x m) l)
-      ∙ sym (ap (λ (qs : List Request). runs indent qs m) (request_at i r h))
+  turn e ns rest h next q l f =
+      let l' = rw h.0 at l in
+      let a : runs indent (requests_of (drop 4 r)) next ≡ m' =
+      ap (runs indent (requests_of (drop 4 r))) (f ∙ ap (λ (x : Request). after indent x m) l')
+      ∙ sym (ap (λ (qs : List Request). runs indent qs m) (first_request r (omega (arith, h.2))))
       ∙ e
+      in rw h.1 a
 
-  pub none_left : length r < i + 4 → runs indent (requests_of (drop i r)) m ≡ m' → m ≡ m'
+  pub none_left : length r < 4 → runs indent (requests_of r) m ≡ m' → m ≡ m'
   unfolding runs
-  none_left h e =
-      sym (ap (λ (qs : List Request). runs indent qs m) (few_left (drop i r) (omega (arith, length-drop i r)))) ∙ e
+  none_left h e = sym (ap (λ (qs : List Request). runs indent qs m) (few_left r h)) ∙ e

@@ -1,10 +1,11 @@
 // Demand 3: any list of readings and printings of one file.
 #![tactic(auto)]
 
-ghost use Rattle.std.specs.Prelude.{◌≡◌, true, not, ◌++◌, ℕ, ◌+◌, ◌≤◌, min, eqb, length, take, drop, get_or};
+ghost use Rattle.std.specs.Prelude.{◌≡◌, true, not, ◌++◌, ◌+◌, ◌≤◌, min, eqb, length, take, drop, get_or};
 ghost use Rattle.parser.specs.Read.{reading};
 ghost use Rattle.file.specs.Run.{ask, requests_of, file_of, memory, kept_in, after, runs, Unaltered};
-ghost use Rattle.writer.specs.declared.Printed.TheVariants.{Accepted};
+ghost use Rattle.std.specs.Prelude.{Ok};
+ghost use Rattle.writer.specs.declared.Print.{Print};
 ghost use Rattle.writer.specs.Write.{said};
 
 use writer::Printed;
@@ -18,24 +19,17 @@ struct Request {
     out: usize,
 }
 
-// So many, or as many as there are.
-fn at_most(count: usize, there: usize) -> usize
-    ensures { result ≡ min count there }
-{
-    if count < there { count } else { there }
-}
-
-// The request whose four numbers start at an index.
-fn request_at(requests: &[u32], i: usize) -> Request
-    requires { i + 4 ≤ length requests.now }
+// The request that four numbers make.
+fn request_of(numbers: &[u32; 4]) -> Request
     ensures { ask result.prints result.nodes result.comments result.out
-        ≡ ask (not (eqb (get_or requests.now i 0) 0)) (get_or requests.now (i + 1) 0) (get_or requests.now (i + 2) 0) (get_or requests.now (i + 3) 0) }
+        ≡ ask (not (eqb (get_or numbers.now 0 0) 0)) (get_or numbers.now 1 0) (get_or numbers.now 2 0) (get_or numbers.now 3 0) }
 {
+    let [kind, nodes, comments, out] = *numbers;
     Request {
-        prints: requests[i] != 0,
-        nodes: requests[i + 1] as usize,
-        comments: requests[i + 2] as usize,
-        out: requests[i + 3] as usize,
+        prints: kind != 0,
+        nodes: nodes as usize,
+        comments: comments as usize,
+        out: out as usize,
     }
 }
 
@@ -44,24 +38,20 @@ fn read_file(text: &[u8], request: Request, nodes: &mut [u32], comments: &mut [u
     ensures { (nodes.new ≡ (reading text.now (take request.nodes nodes.old) (take request.comments comments.old)).nodes ++ drop request.nodes nodes.old)
         × (comments.new ≡ (reading text.now (take request.nodes nodes.old) (take request.comments comments.old)).comments ++ drop request.comments comments.old) }
 {
-    let a = at_most(request.nodes, nodes.len());
-    let b = at_most(request.comments, comments.len());
-    reader::read(text, &mut nodes[..a], &mut comments[..b]);
+    let a = request.nodes.min(nodes.len());
+    let b = request.comments.min(comments.len());
+    let _ = reader::read(text, &mut nodes[..a], &mut comments[..b]);
 }
 
 // Makes printed bytes the file, with 0 behind them, if its space holds them; the length of the file afterwards.
 fn store(space: &mut [u8], file: usize, printed: Printed, out: &[u8]) -> usize
-    requires { (n c b : ℕ) → printed ≡ Accepted n c b → b ≤ length out.now }
+    requires { (p : Print) → printed ≡ Ok p → p.bytes ≤ length out.now }
     ensures { file_of result space.new ≡ kept_in (said printed) out.now (file_of file space.old) }
 {
-    let Printed::Accepted {
-        nodes: _,
-        comments: _,
-        bytes,
-    } = printed
-    else {
+    let Ok(print) = printed else {
         return file; // a refused printing leaves the file
     };
+    let bytes = print.bytes;
     if space.len() < bytes {
         return file;
     }
@@ -84,9 +74,9 @@ fn print_file(
     ensures { memory result space.new nodes.new comments.new out.new
         ≡ after indent (ask true request.nodes request.comments request.out) (memory file space.old nodes.old comments.old out.old) }
 {
-    let a = at_most(request.nodes, nodes.len());
-    let b = at_most(request.comments, comments.len());
-    let c = at_most(request.out, out.len());
+    let a = request.nodes.min(nodes.len());
+    let b = request.comments.min(comments.len());
+    let c = request.out.min(out.len());
     let printed = printer::print(
         &space[..file],
         indent,
@@ -134,19 +124,12 @@ pub fn run(
         ≡ runs indent (requests_of requests.now) (memory (min file (length space.old)) space.old nodes.old comments.old out.old))
         × Unaltered indent (requests_of requests.now) (memory (min file (length space.old)) space.old nodes.old comments.old out.old) (take result space.new) }
 {
-    let mut length = at_most(file, space.len());
-    let mut i: usize = 0;
-    while i + 4 <= requests.len() {
-        length = call(
-            space,
-            length,
-            indent,
-            request_at(requests, i),
-            nodes,
-            comments,
-            out,
-        );
-        i += 4;
+    let mut length = file.min(space.len());
+    let mut left = requests;
+    while let Some((numbers, rest)) = left.split_first_chunk::<4>() {
+        let request = request_of(numbers);
+        length = call(space, length, indent, request, nodes, comments, out);
+        left = rest;
     }
     length
 }

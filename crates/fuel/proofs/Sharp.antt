@@ -2,7 +2,7 @@
 use mathlib.Core.Path.{◌≡◌, refl}
 use mathlib.Core.Bool.{Bool, true, false}
 use mathlib.Core.List.{List, [], ◌∷◌}
-use mathlib.Core.Option.{none}
+use Rattle.std.specs.Prelude.{None}
 use Prim.Native.Nat.{suc}
 use native.Mathlib.Omega.{arith}
 use lib.ListN.{length}
@@ -22,7 +22,7 @@ unfolding none_left
 none_left_keeps (pos l c []) = leaves {s = pos l c []} (omega arith)
 none_left_keeps (pos l c (t ∷ ts)) = leaves {s = pos l c (t ∷ ts)} (omega arith)
 
-pub too_little : (l : LOC) (c ts : List Lexeme) → (q : LOC) × (loop [] ◌∷◌ none_left next (length ts) (pos l c ts) ≡ no (raise UnexpectedEOF none) q)
+pub too_little : (l : LOC) (c ts : List Lexeme) → (q : LOC) × (loop [] ◌∷◌ none_left next (length ts) (pos l c ts) ≡ no (raise UnexpectedEOF None) q)
 unfolding loop none_left next fail bind test
 too_little l c [] = (l, refl)
 too_little l c (t ∷ ts) = let h = too_little (place t) c ts in (h.0, rw h.1)

@@ -1,6 +1,6 @@
 -- The readers of parser's Values and Definitions that read a list or a field, with the loop's constant n and the rule for a field's id as parameters; at 65537 and parser's rule they are those (proofs/Anchor).
 use Rattle.std.specs.Prelude.{List, [], ◌∷◌, ℕ, suc, zero}
-use Rattle.std.proofs.Math.Option.{Option, some, none}
+use Rattle.std.specs.Prelude.{Option, Some, None}
 use Rattle.token.specs.Code.{is}
 use Rattle.token.specs.declared.Token.{Token}
 use Rattle.token.specs.declared.Token.TheVariants as T
@@ -99,7 +99,7 @@ parse_annotations n =
 -- ---- fields
 
 unfoldable pub parse_default : ℕ → P (Option FieldInitialValue)
-parse_default n = when (T.Equals ∷ []) (do next; v ← parse_value n; pure (some v)) (pure none)
+parse_default n = when (T.Equals ∷ []) (do next; v ← parse_value n; pure (Some v)) (pure None)
 
 unfoldable pub parse_field : P (Option Lexeme) → ℕ → P Field
 parse_field rule n = do
@@ -125,7 +125,7 @@ parse_parameters rule n = parse_members n T.LeftParen T.RightParen (parse_field 
 -- ---- functions
 
 unfoldable pub parse_throws : P (Option Lexeme) → ℕ → P (Option (List Field))
-parse_throws rule n = when (T.Throws ∷ []) (do next; fs ← parse_parameters rule n; pure (some fs)) (pure none)
+parse_throws rule n = when (T.Throws ∷ []) (do next; fs ← parse_parameters rule n; pure (Some fs)) (pure None)
 
 unfoldable pub parse_function : P (Option Lexeme) → ℕ → P Function
 parse_function rule n = do

@@ -11,6 +11,7 @@ pub fn read_full(mut input: Stdin, space: &mut [u8]) -> io::Result<usize>
     ensures { ReadsAtMost result space.new }
 {
     let mut done = 0;
+    // how many bytes a read gives is the input's choice
     while done < space.len() {
         let n = input.read(&mut space[done..])?;
         if n == 0 {

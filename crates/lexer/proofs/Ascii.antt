@@ -6,7 +6,7 @@ use mathlib.Core.Path.{◌≡◌, refl}
 use mathlib.Core.Logic.{⊎_elim}
 use mathlib.Core.Bool.{Bool, true, false, cond}
 use mathlib.Core.List.{List, [], ◌∷◌, ◌++◌}
-use mathlib.Core.Option.{Option, some, none}
+use Rattle.std.specs.Prelude.{Option, Some, None}
 use Prim.Native.Nat.{ℕ, zero, suc, ◌+◌, ◌<◌, ◌≤◌}
 use native.Mathlib.Omega.{arith}
 use borrow.Author.Tests.{le-ltb}
@@ -18,8 +18,7 @@ use Rattle.token.specs.Run.{class_of}
 use Rattle.token.specs.Breaks.{Bytes}
 use Rattle.token.specs.Automaton.{step, openings}
 use Rattle.token.specs.declared.Token.{Token}
-use Rattle.token.specs.declared.Scan.{Scan}
-use Rattle.token.specs.declared.Scan.TheVariants.{Miss, Hit}
+use Rattle.token.specs.Scanned.{Scan}
 use Rattle.token.proofs.Numbers.{lt_or_le}
 use Rattle.token.proofs.Every.{every, at}
 use Rattle.token.proofs.Classes.{classes_length}
@@ -58,13 +57,13 @@ bytes_drop t zero b = b
 bytes_drop [] (suc n) b = tt
 bytes_drop (c ∷ t) (suc n) b = bytes_drop t n b.1
 
-high_miss : (t : List ℕ) → Bytes t → 0 < length t → 128 ≤ get_or t 0 0 → scan t ≡ Miss
+high_miss : (t : List ℕ) → Bytes t → 0 < length t → 128 ≤ get_or t 0 0 → scan t ≡ None
 unfolding step openings
 high_miss t b h l =
     let k : class_of (get_or t 0 0) ≡ 58 = high_class (get_or t 0 0) (bytes_at t b 0) l in
-    scan_plain t Miss ((no_word_first t).1 (omega arith)) (reach_stop (reach_start t (bytes_at t b)) 58 h k refl)
+    scan_plain t None ((no_word_first t).1 (omega arith)) (reach_stop (reach_start t (bytes_at t b)) 58 h k refl)
 
-pub hit_ascii : (t : List ℕ) (k : Token) (n : ℕ) → Bytes t → scan t ≡ Hit k n → get_or t 0 0 < 128
+pub hit_ascii : (t : List ℕ) (k : Token) (n : ℕ) → Bytes t → scan t ≡ Some (k, n) → get_or t 0 0 < 128
 hit_ascii t k n b e =
     ⊎_elim (λ h. h)
     (λ h. let z : ◌≡◌ {A = ℕ} 0 1 = cc (high_miss t b (omega (arith, (hit_fits t k n e).0, (hit_fits t k n e).1)) h) in absurd (omega arith))
@@ -75,21 +74,21 @@ hit_ascii t k n b e =
 data View (t : List ℕ) : Type 0 where
   over : cuts t ≡ end → t ≡ [] → View t
   none_here : cuts t ≡ stuck → View t
-  one : (k : Token) (n : ℕ) → scan t ≡ Hit k n → View t
+  one : (k : Token) (n : ℕ) → scan t ≡ Some (k, n) → View t
 
 view : (t : List ℕ) → View t
 view [] = over cuts_nil refl
 view (c ∷ w) = go (scan (c ∷ w)) refl
   where
     go : (s : Scan) → scan (c ∷ w) ≡ s → View (c ∷ w)
-    go Miss e = none_here (cuts_miss (c ∷ w) (omega arith) e)
-    go (Hit k n) e = one k n e
+    go None e = none_here (cuts_miss (c ∷ w) (omega arith) e)
+    go (Some (k, n)) e = one k n e
 
 starts_first : (t : List ℕ) → get_or t 0 0 < 128 → Starts t
 starts_first [] h = tt
 starts_first (c ∷ w) h = h
 
-starts_cut : (t : List ℕ) (a : ℕ) → Bytes t → unrecognized (cuts t) a ≡ none → Starts t
+starts_cut : (t : List ℕ) (a : ℕ) → Bytes t → unrecognized (cuts t) a ≡ None → Starts t
 unfolding unrecognized
 starts_cut t a b u = go (view t)
   where
@@ -105,7 +104,7 @@ Well end = Unit
 Well stuck = Unit
 Well (cut k w r cs) = WellFormed w × Well cs
 
-well_from : (m : ℕ) (t : List ℕ) (a : ℕ) → length t ≤ m → Bytes t → WellFormed t → unrecognized (cuts t) a ≡ none → Well (cuts t)
+well_from : (m : ℕ) (t : List ℕ) (a : ℕ) → length t ≤ m → Bytes t → WellFormed t → unrecognized (cuts t) a ≡ None → Well (cuts t)
 unfolding unrecognized
 well_from zero t a h b w u = go (view t)
   where
@@ -115,18 +114,18 @@ well_from zero t a h b w u = go (view t)
     go (one k n e) = absurd (omega (arith, (hit_fits t k n e).0, (hit_fits t k n e).1))
 well_from (suc m) t a h b w u = go (view t) (λ n. well_from m (drop n t))
   where
-    go : View t → ((n a : ℕ) → length (drop n t) ≤ m → Bytes (drop n t) → WellFormed (drop n t) → unrecognized (cuts (drop n t)) a ≡ none → Well (cuts (drop n t))) → Well (cuts t)
+    go : View t → ((n a : ℕ) → length (drop n t) ≤ m → Bytes (drop n t) → WellFormed (drop n t) → unrecognized (cuts (drop n t)) a ≡ None → Well (cuts (drop n t))) → Well (cuts t)
     go (over e f) ih = rw e tt
     go (none_here e) ih = rw e tt
     go (one k n e) ih =
         let c : cuts t ≡ cut k (take n t) (drop n t) (cuts (drop n t)) = cuts_hit t k n e in
-        let v : unrecognized (cuts (drop n t)) (a + length (take n t)) ≡ none = rw c at u in
+        let v : unrecognized (cuts (drop n t)) (a + length (take n t)) ≡ None = rw c at u in
         let s : Starts (drop n t) = starts_cut (drop n t) (a + length (take n t)) (bytes_drop t n b) v in
         let x : WellFormed (take n t ++ drop n t) = rw (take-append-drop n t) w in
         let l : length (drop n t) ≤ m = omega (arith, length-drop n t, (hit_fits t k n e).0, (hit_fits t k n e).1) in
         rw c (well_left (take n t) (drop n t) s x, ih n (a + length (take n t)) l (bytes_drop t n b) (well_right (take n t) (drop n t) s x) v)
 
-pub well_cuts : (t : List ℕ) → Bytes t → WellFormed t → unrecognized (cuts t) 0 ≡ none → Well (cuts t)
+pub well_cuts : (t : List ℕ) → Bytes t → WellFormed t → unrecognized (cuts t) 0 ≡ None → Well (cuts t)
 well_cuts t b w u = well_from (length t) t 0 (omega arith) b w u
 
 abbrev pub WellTokens : List Lexeme → Type 0
@@ -143,14 +142,14 @@ well_lexemes (cut k w r cs) s h = go (skipped k) (well_lexemes cs (pass w k r s)
     go true x = x
     go false x = (h.0, x)
 
-fine_both : (o p : Option ℕ) {ns : List ℕ} → verdict o p ≡ accepted ns → (o ≡ none) × (p ≡ none)
+fine_both : (o p : Option ℕ) {ns : List ℕ} → verdict o p ≡ accepted ns → (o ≡ None) × (p ≡ None)
 unfolding verdict
-fine_both (some q) p e = let z : ◌≡◌ {A = ℕ} 0 1 = cc in absurd (omega arith)
-fine_both none (some q) e = let z : ◌≡◌ {A = ℕ} 0 1 = cc in absurd (omega arith)
-fine_both none none e = (refl, refl)
+fine_both (Some q) p e = let z : ◌≡◌ {A = ℕ} 0 1 = cc in absurd (omega arith)
+fine_both None (Some q) e = let z : ◌≡◌ {A = ℕ} 0 1 = cc in absurd (omega arith)
+fine_both None None e = (refl, refl)
 
 -- what the check finds fine is well formed and cut to its end
-pub fine_means : (t : List ℕ) {ns : List ℕ} → checked t ≡ accepted ns → (length t ≤ 65536) × WellFormed t × (unrecognized (cuts t) 0 ≡ none)
+pub fine_means : (t : List ℕ) {ns : List ℕ} → checked t ≡ accepted ns → (length t ≤ 65536) × WellFormed t × (unrecognized (cuts t) 0 ≡ None)
 unfolding checked
 fine_means t e =
     let h : length t ≤ 65536 = fine_fits t e in

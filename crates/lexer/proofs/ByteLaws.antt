@@ -21,8 +21,8 @@ use Rattle.token.specs.Run.{class_of}
 use Rattle.token.specs.Automaton.{openings, whole_byte, opened}
 use Rattle.token.specs.declared.Token.{Token}
 use Rattle.token.specs.declared.Token.TheVariants as T
-use Rattle.token.specs.declared.Scan.{Scan}
-use Rattle.token.specs.declared.Scan.TheVariants.{Miss, Hit}
+use Rattle.token.specs.Scanned.{Scan}
+use Rattle.std.specs.Prelude.{Some, None}
 use Rattle.token.proofs.Every.{every, at, both, both_left, both_right}
 use Rattle.token.proofs.Classes.{classes_length, class_below}
 use Rattle.token.proofs.Pattern.{newline_class}
@@ -67,7 +67,7 @@ refuted true h = absurd (h refl)
 refuted false h = refl
 
 module _ (t : List ℕ) (i : ℕ) (bytes : (j : ℕ) → get_or t j 0 < 256) where
-  pub token_no_line : (k : ℕ) → k ≡ class_of (get_or t i 0) → (eqb k 39 || eqb k 40) ≡ false → (q : Token) (n : ℕ) → scan (drop i t) ≡ Hit q n → is q T.Newline ≡ false
+  pub token_no_line : (k : ℕ) → k ≡ class_of (get_or t i 0) → (eqb k 39 || eqb k 40) ≡ false → (q : Token) (n : ℕ) → scan (drop i t) ≡ Some (q, n) → is q T.Newline ≡ false
   token_no_line k e l q n h =
       refuted (is q T.Newline)
       (λ z.
@@ -77,8 +77,8 @@ module _ (t : List ℕ) (i : ℕ) (bytes : (j : ℕ) → get_or t j 0 < 256) whe
 
 -- a token of one byte that is not passed over and ends no line, or none
 plain : Scan → Bool
-plain Miss = true
-plain (Hit k n) = both (eqb n 1) (both (not (skipped k)) (both (not (is k T.Newline)) (not (is k T.BlockComment))))
+plain None = true
+plain (Some (k, n)) = both (eqb n 1) (both (not (skipped k)) (both (not (is k T.Newline)) (not (is k T.BlockComment))))
 
 marks : ℕ → ℕ → Bool
 marks k x = cond (ltb k 46) true (plain (opened k))
@@ -94,8 +94,8 @@ not-false false h = refl
 module _ (t : List ℕ) (s : Lexer) (h : s.at < length t) where
   plain_next : (r : Scan) → T (plain r) → scan (drop s.at t) ≡ r → next t s ≡ marked r s
   unfolding plain marked ends_line pass
-  plain_next Miss p e = next_miss t s h e
-  plain_next (Hit k n) p e =
+  plain_next None p e = next_miss t s h e
+  plain_next (Some (k, n)) p e =
       let newline = not (is k T.Newline) in
       let block = not (is k T.BlockComment) in
       let token = not (skipped k) in

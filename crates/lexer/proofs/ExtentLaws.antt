@@ -19,8 +19,8 @@ use Rattle.token.specs.Run.{class_of, stops, before}
 use Rattle.token.specs.Automaton.{openings, whole_byte, opened}
 use Rattle.token.specs.declared.Token.{Token}
 use Rattle.token.specs.declared.Token.TheVariants as T
-use Rattle.token.specs.declared.Scan.{Scan}
-use Rattle.token.specs.declared.Scan.TheVariants.{Miss, Hit}
+use Rattle.token.specs.Scanned.{Scan}
+use Rattle.std.specs.Prelude.{Some, None}
 use Rattle.token.proofs.Every.{every, at}
 use Rattle.token.proofs.Numbers.{lt_or_le, eq_or_ne}
 use Rattle.token.proofs.Classes.{classes_length, class_below}
@@ -32,8 +32,8 @@ use Rattle.lexer.proofs.CutLaws.{hit_fits, unrecognized_hit}
 
 -- one, or one and then others
 pub data Blanks (t : List ℕ) (i : ℕ) : Type 0 where
-  one : scan (drop i t) ≡ Hit T.Blank 1 → Blanks t i
-  more : (n : ℕ) → scan (drop i t) ≡ Hit T.Blank (suc n) → scan (drop (i + 1) t) ≡ Hit T.Blank n → Blanks t i
+  one : scan (drop i t) ≡ Some (T.Blank, 1) → Blanks t i
+  more : (n : ℕ) → scan (drop i t) ≡ Some (T.Blank, suc n) → scan (drop (i + 1) t) ≡ Some (T.Blank, n) → Blanks t i
 
 before_none : (t : List ℕ) (i : ℕ) → length t ≤ i → before 0 59 (drop i t) ≡ 0
 unfolding before
@@ -65,8 +65,8 @@ module _ (t : List ℕ) (i : ℕ) (bytes : (j : ℕ) → get_or t j 0 < 256) (h 
 
 -- a token of one byte
 single : Scan → Bool
-single Miss = false
-single (Hit k n) = eqb n 1
+single None = false
+single (Some (k, n)) = eqb n 1
 
 -- the classes of marks
 marks : ℕ → ℕ → Bool
@@ -76,35 +76,28 @@ marks_test : T (every marks 0 classes)
 unfolding marks single opened openings whole_byte classes
 marks_test = tt
 
-no_token_law : opened 58 ≡ Miss
+no_token_law : opened 58 ≡ None
 unfolding opened openings whole_byte
 no_token_law = refl
 
 module _ (t : List ℕ) (i : ℕ) (h : i < length t) where
-  pub extent_hit : (k : Token) (n : ℕ) → scan (drop i t) ≡ Hit k n → Extent t i n
+  pub extent_hit : (k : Token) (n : ℕ) → scan (drop i t) ≡ Some (k, n) → Extent t i (Some n)
   extent_hit k n e =
       let f = hit_fits (drop i t) k n e in
-      record { within = omega (arith, f.1, length-drop i t); none = λ z. absurd (omega (arith, f.0)); onward = λ _. unrecognized_hit t i k n e }
+      record { passes = f.0; within = omega (arith, f.1, length-drop i t); onward = unrecognized_hit t i k n e }
 
-  pub extent_miss : scan (drop i t) ≡ Miss → Extent t i 0
-  extent_miss e = record { within = omega arith; none = λ _. e; onward = λ z. absurd (omega arith) }
-
-  extent_blank : Blanks t i → Extent t i 1
+  extent_blank : Blanks t i → Extent t i (Some 1)
   extent_blank (one e) = extent_hit T.Blank 1 e
   extent_blank (more n e f) =
       let m : i + suc n ≡ i + 1 + n = omega arith in
-      record {
-        within = omega arith;
-        none = λ z. absurd (omega arith);
-        onward = λ _. unrecognized_hit t i T.Blank (suc n) e ∙ rw m (sym (unrecognized_hit t (i + 1) T.Blank n f));
-      }
+      record { passes = omega arith; within = omega arith; onward = unrecognized_hit t i T.Blank (suc n) e ∙ rw m (sym (unrecognized_hit t (i + 1) T.Blank n f)) }
 
-  extent_single : (r : Scan) → T (single r) → scan (drop i t) ≡ r → Extent t i 1
+  extent_single : (r : Scan) → T (single r) → scan (drop i t) ≡ r → Extent t i (Some 1)
   unfolding single
-  extent_single Miss z e = absurd z
-  extent_single (Hit k n) z e = extent_hit k 1 (e ∙ ap (Hit k) (eqb→eq n 1 z))
+  extent_single None z e = absurd z
+  extent_single (Some (k, n)) z e = extent_hit k 1 (e ∙ ap (λ (n : ℕ). Some (k, n)) (eqb→eq n 1 z))
 
-  pub extent_mark : ((j : ℕ) → get_or t j 0 < 256) → (k : ℕ) → k ≡ class_of (get_or t i 0) → 46 ≤ k → (k ≡ 58 → ⊥) → Extent t i 1
+  pub extent_mark : ((j : ℕ) → get_or t j 0 < 256) → (k : ℕ) → k ≡ class_of (get_or t i 0) → 46 ≤ k → (k ≡ 58 → ⊥) → Extent t i (Some 1)
   unfolding marks
   extent_mark bytes k e l n =
       let c = class_below (get_or t i 0) (bytes i) in
@@ -112,5 +105,5 @@ module _ (t : List ℕ) (i : ℕ) (h : i < length t) where
       (λ z. extent_single (opened k) (rw (le-ltb k 46 l, lt-leb 58 k (omega arith)) at (at marks classes 0 marks_test k (omega (arith, classes_length)))) (mark_at t i bytes h k e l z))
       (eq_or_ne k 59)
 
-  pub extent_none : ((j : ℕ) → get_or t j 0 < 256) → (k : ℕ) → k ≡ class_of (get_or t i 0) → k ≡ 58 → Extent t i 0
-  extent_none bytes k e z = extent_miss (mark_at t i bytes h 58 (sym z ∙ e) (omega arith) (λ y. omega arith) ∙ no_token_law)
+  pub extent_none : ((j : ℕ) → get_or t j 0 < 256) → (k : ℕ) → k ≡ class_of (get_or t i 0) → k ≡ 58 → Extent t i None
+  extent_none bytes k e z = mark_at t i bytes h 58 (sym z ∙ e) (omega arith) (λ y. omega arith) ∙ no_token_law

@@ -5,3 +5,5 @@ pub mod PlaceLaws
 pub mod CheckLaws
 pub mod Ascii
 pub mod NextLaws
+pub mod Places
+pub mod KindNumbers

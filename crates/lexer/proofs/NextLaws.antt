@@ -7,7 +7,7 @@
 use mathlib.Core.Path.{◌≡◌, refl, sym, ap, ◌∙◌}
 use mathlib.Core.Bool.{Bool, true, false, cond}
 use mathlib.Core.List.{List, [], ◌∷◌}
-use mathlib.Core.Option.{Option}
+use Rattle.std.specs.Prelude.{Option, Some, None}
 use Prim.Native.Nat.{ℕ, zero, suc, ◌+◌, ◌-◌, ◌<◌, ◌≤◌}
 use native.Mathlib.Omega.{arith}
 use borrow.Author.Tests.{ltb-true, ltb-false}
@@ -16,8 +16,7 @@ use lib.ListN.{length, take, drop, length-drop}
 use lib.Seq.{drop-drop, length-take-le}
 use Rattle.token.specs.Scan.{scan}
 use Rattle.token.specs.declared.Token.{Token}
-use Rattle.token.specs.declared.Scan.{Scan}
-use Rattle.token.specs.declared.Scan.TheVariants.{Miss, Hit}
+use Rattle.token.specs.Scanned.{Scan}
 use Rattle.lexer.specs.declared.location.Lexer.{Lexer}
 use Rattle.lexer.specs.declared.location.ParserToken.{ParserToken}
 use Rattle.lexer.specs.declared.location.Next.{Next}
@@ -36,7 +35,7 @@ behind t s k n = pass (take n (drop s.at t)) k (drop n (drop s.at t)) s
 
 -- a lexeme of the kind k and of n bytes stands at s
 Stands : List ℕ → Lexer → Token → ℕ → Type 0
-Stands t s k n = scan (drop s.at t) ≡ Hit k n
+Stands t s k n = scan (drop s.at t) ≡ Some (k, n)
 
 module _ (t : List ℕ) (s : Lexer) (k : Token) (n : ℕ) (h : Stands t s k n) where
   taken : length (take n (drop s.at t)) ≡ n
@@ -81,7 +80,7 @@ module _ (t : List ℕ) (P : Lexer → ParserToken → Lexer → Type 0)
         let v : q ≡ e = cc in
         rw (← u, ← v) (here s k n h b)
 
-    at_miss : (s e : Lexer) (p : ParserToken) → scan (drop s.at t) ≡ Miss → next t s ≡ N.On p e → (b : Bool) → ltb s.at (length t) ≡ b → P s p e
+    at_miss : (s e : Lexer) (p : ParserToken) → scan (drop s.at t) ≡ None → next t s ≡ N.On p e → (b : Bool) → ltb s.at (length t) ≡ b → P s p e
     at_miss s e p h g true b =
         let f = next_miss t s (ltb-true s.at (length t) b) h in
         let z : ◌≡◌ {A = ℕ} 0 1 = cc in
@@ -93,8 +92,8 @@ module _ (t : List ℕ) (P : Lexer → ParserToken → Lexer → Type 0)
 
     at_scan : (s e : Lexer) (p : ParserToken) (r : Scan) → scan (drop s.at t) ≡ r → next t s ≡ N.On p e → Later s e p → P s p e
     unfolding Stands
-    at_scan s e p Miss h g l = at_miss s e p h g (ltb s.at (length t)) refl
-    at_scan s e p (Hit k n) h g l = at_hit s e p k n h g l (skipped k) refl
+    at_scan s e p None h g l = at_miss s e p h g (ltb s.at (length t)) refl
+    at_scan s e p (Some (k, n)) h g l = at_hit s e p k n h g l (skipped k) refl
 
     go : (m : ℕ) (s e : Lexer) (p : ParserToken) → length t - s.at ≤ m → next t s ≡ N.On p e → P s p e
     unfolding Later
@@ -164,24 +163,24 @@ tokens_on t s e p g =
     s e p g
 
 -- no token is next
-None : Next → Type 0
-None r = (p : ParserToken) (e : Lexer) → r ≡ N.On p e → ⊥
+NotOn : Next → Type 0
+NotOn r = (p : ParserToken) (e : Lexer) → r ≡ N.On p e → ⊥
 
-picked : (b : Bool) (r : Next) (p : ParserToken) (e : Lexer) (l m : List Lexeme) → (None r → l ≡ []) → None (cond b r (N.On p e)) → cond b l m ≡ []
-unfolding None
+picked : (b : Bool) (r : Next) (p : ParserToken) (e : Lexer) (l m : List Lexeme) → (NotOn r → l ≡ []) → NotOn (cond b r (N.On p e)) → cond b l m ≡ []
+unfolding NotOn
 picked true r p e l m f h = f h
 picked false r p e l m f h = absurd (h p e refl)
 
-none_left : (c : Cuts) (s : Lexer) → None (next_of c s) → lexemes c s ≡ []
+none_left : (c : Cuts) (s : Lexer) → NotOn (next_of c s) → lexemes c s ≡ []
 unfolding next_of lexemes
 none_left end s h = refl
 none_left stuck s h = refl
 none_left (cut k w r c) s h = picked (skipped k) _ _ _ _ _ (none_left c (pass w k r s)) h
 
 pub tokens_end : (t : List ℕ) (s : Lexer) → next t s ≡ N.End → tokens t s ≡ []
-unfolding tokens next None
+unfolding tokens next NotOn
 tokens_end t s g = none_left (cuts (drop s.at t)) s (λ p e f. let z : ◌≡◌ {A = ℕ} 0 1 = cc in omega arith)
 
 pub tokens_unrecognized : (t : List ℕ) (s : Lexer) (q : ℕ) → next t s ≡ N.Unrecognized q → tokens t s ≡ []
-unfolding tokens next None
+unfolding tokens next NotOn
 tokens_unrecognized t s q g = none_left (cuts (drop s.at t)) s (λ p e f. let z : ◌≡◌ {A = ℕ} 0 1 = cc in omega arith)

@@ -7,3 +7,4 @@ pub mod Tokens
 pub mod Check
 pub mod Extent
 pub mod Marked
+pub mod Refusal

@@ -1,57 +1,139 @@
-// The refusals, by the papers' numbers: rico's ParseErrorKind in its order. 5 and 7 are left out: rico raises them only with no token left, where the end rule gives 3 or 1.
-pub const UNRECOGNIZED_TOKEN: u32 = 1;
+// The refusals.
+ghost use Rattle.std.specs.Prelude.{◌≡◌, [], ◌∷◌};
 
-pub const UNEXPECTED_TOKEN: u32 = 2;
+use std::error::Error;
+use std::fmt;
 
-pub const UNEXPECTED_EOF: u32 = 3;
+// Why a call refuses, by the papers' numbers: rico's ParseErrorKind in its order, then the refusals that rico does not have.
+// 5 and 7 are left out: rico raises them only with no token left, where the end rule gives 3 or 1.
+#[derive(Clone, Copy, Debug, PartialEq, Eq)]
+pub enum ErrorKind {
+    UnrecognizedToken = 1,
+    UnexpectedToken = 2,
+    UnexpectedEOF = 3,
+    UnsupportedType = 4,
+    InvalidValueDeclaration = 6,
+    InvalidFieldName = 8,
+    InvalidFieldId = 9,
+    MissingNamespaceIdentifier = 10,
+    MissingNamespaceScope = 11,
+    MissingIncludeIdentifier = 12,
+    MissingConstIdentifier = 13,
+    MissingTypedefIdentifier = 14,
+    MissingEnumIdentifier = 15,
+    MissingStructIdentifier = 16,
+    MissingServiceIdentifier = 17,
+    MissingServiceExtends = 18,
+    InvalidEnumMemberName = 19,
+    // Those that rico does not have.
+    TextTooLong = 20,
+    NotUtf8 = 21,
+    NoToken = 22,
+    TooDeep = 23,
+    NodesFull = 24,
+    CommentsFull = 25,
+    IndentTooWide = 26,
+    OutputFull = 27,
+    // An enum member's number outside 32 bits.
+    EnumNumberOutside = 28,
+    // A stored table that can't be moved.
+    NotMovable = 33,
+}
 
-pub const UNSUPPORTED_TYPE: u32 = 4;
+impl ErrorKind {
+    ghost use Rattle.lexer.specs.Refusal.{number_of};
 
-pub const INVALID_VALUE_DECLARATION: u32 = 6;
+    // The papers' number.
+    pub fn number(self) -> u32
+        ensures { result ≡ number_of self }
+    {
+        self as u32
+    }
+}
 
-pub const INVALID_FIELD_NAME: u32 = 8;
+// A refusal: why, at which byte, and how many bytes long.
+#[derive(Clone, Copy, Debug, PartialEq, Eq)]
+pub struct Refusal {
+    pub kind: ErrorKind,
+    pub place: u32,
+    pub length: u32,
+}
 
-pub const INVALID_FIELD_ID: u32 = 9;
+impl Refusal {
+    ghost use Rattle.lexer.specs.Refusal.{number_of};
 
-pub const MISSING_NAMESPACE_IDENTIFIER: u32 = 10;
+    // A refusal without a length.
+    pub fn at(kind: ErrorKind, place: u32) -> Refusal
+        ensures { result ≡ record { kind = kind; place = place; length = 0 } }
+    {
+        Refusal {
+            kind,
+            place,
+            length: 0,
+        }
+    }
 
-pub const MISSING_NAMESPACE_SCOPE: u32 = 11;
+    // The papers' number, the place and the length.
+    pub fn numbers(self) -> [u32; 3]
+        ensures { result ≡ number_of self.kind ∷ self.place ∷ self.length ∷ [] }
+    {
+        [self.kind.number(), self.place, self.length]
+    }
+}
 
-pub const MISSING_INCLUDE_IDENTIFIER: u32 = 12;
+// What is wrong, and what to do where that is plain.
+impl fmt::Display for ErrorKind {
+    fn fmt<W: fmt::Write>(&self, f: &mut fmt::Formatter<W>) -> fmt::Result {
+        f.write_str(match self {
+            ErrorKind::UnrecognizedToken => {
+                "only blanks are left behind this token, and more has to follow"
+            }
+            ErrorKind::UnexpectedToken => "this token can't stand here",
+            ErrorKind::UnexpectedEOF => "the text ends with this token, and more has to follow",
+            ErrorKind::UnsupportedType => "a type has to stand here",
+            ErrorKind::InvalidValueDeclaration => {
+                "a value has to stand here; an enum member's is an integer"
+            }
+            ErrorKind::InvalidFieldName => {
+                "a field's name has to stand here; a field starts with its number, as in `1: i32 a`"
+            }
+            ErrorKind::InvalidFieldId => "a field's number goes from 0 to 18446744073709551615",
+            ErrorKind::MissingNamespaceIdentifier => "the namespace's name has to stand here",
+            ErrorKind::MissingNamespaceScope => {
+                "the namespace's scope has to stand here, a name or `*`"
+            }
+            ErrorKind::MissingIncludeIdentifier => "a path in quotes has to stand here",
+            ErrorKind::MissingConstIdentifier => "the constant's name has to stand here",
+            ErrorKind::MissingTypedefIdentifier => "the typedef's name has to stand here",
+            ErrorKind::MissingEnumIdentifier => "the enum's name has to stand here",
+            ErrorKind::MissingStructIdentifier => {
+                "the name of the struct, union or exception has to stand here"
+            }
+            ErrorKind::MissingServiceIdentifier => "the service's name has to stand here",
+            ErrorKind::MissingServiceExtends => {
+                "the name of the extended service has to stand here"
+            }
+            ErrorKind::InvalidEnumMemberName => {
+                "an enum member's name has to stand here, and no keyword"
+            }
+            ErrorKind::TextTooLong => "the text has more than 65536 bytes; split it",
+            ErrorKind::NotUtf8 => "this isn't UTF-8; save the text as UTF-8",
+            ErrorKind::NoToken => {
+                "no token starts here; perhaps a string or a comment isn't closed"
+            }
+            ErrorKind::TooDeep => "32 containers stand around this one; no more can",
+            ErrorKind::NodesFull => "the text has more nodes than this program holds; split it",
+            ErrorKind::CommentsFull => {
+                "the text has more comments than this program holds; split it"
+            }
+            ErrorKind::IndentTooWide => "the indent is over 8; give 0 to 8",
+            ErrorKind::OutputFull => "the print is longer than this program holds; split the text",
+            ErrorKind::EnumNumberOutside => {
+                "the enum member's number doesn't fit 32 bits; give it a smaller one"
+            }
+            ErrorKind::NotMovable => "these tables can't be moved; read the text again",
+        })
+    }
+}
 
-pub const MISSING_CONST_IDENTIFIER: u32 = 13;
-
-pub const MISSING_TYPEDEF_IDENTIFIER: u32 = 14;
-
-pub const MISSING_ENUM_IDENTIFIER: u32 = 15;
-
-pub const MISSING_STRUCT_IDENTIFIER: u32 = 16;
-
-pub const MISSING_SERVICE_IDENTIFIER: u32 = 17;
-
-pub const MISSING_SERVICE_EXTENDS: u32 = 18;
-
-pub const INVALID_ENUM_MEMBER_NAME: u32 = 19;
-
-// Those that rico does not have.
-pub const TEXT_TOO_LONG: u32 = 20;
-
-pub const NOT_UTF8: u32 = 21;
-
-pub const NO_TOKEN: u32 = 22;
-
-pub const TOO_DEEP: u32 = 23;
-
-pub const NODES_FULL: u32 = 24;
-
-pub const COMMENTS_FULL: u32 = 25;
-
-pub const INDENT_TOO_WIDE: u32 = 26;
-
-pub const OUTPUT_FULL: u32 = 27;
-
-// An enum member's number outside 32 bits.
-pub const ENUM_NUMBER_OUTSIDE: u32 = 28;
-
-// A stored table that can't be moved.
-pub const NOT_MOVABLE: u32 = 33;
+impl Error for ErrorKind {}

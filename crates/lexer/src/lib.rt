@@ -3,48 +3,29 @@
 
 pub mod error;
 pub mod location;
-pub mod table;
 
 ghost use Rattle.std.specs.Prelude.{◌≡◌, ◌<◌, ◌≤◌, length, drop};
-ghost use Rattle.token.specs.Tables.{tables};
-ghost use Rattle.utf8.specs.Found.{found};
 ghost use Rattle.lexer.specs.Limit.{limit};
 ghost use Rattle.lexer.specs.Cuts.{cuts, unrecognized};
 ghost use Rattle.lexer.specs.Location.{Placed};
 ghost use Rattle.lexer.specs.Tokens.{skipped, next};
-ghost use Rattle.lexer.specs.Check.{checked, refusal};
+ghost use Rattle.lexer.specs.Check.{checked, found};
 ghost use Rattle.lexer.specs.Extent.{Extent};
 ghost use Rattle.lexer.specs.Marked.{marked};
 ghost use Rattle.token.specs.Automaton.{opened};
 
+use error::{ErrorKind, Refusal};
 use location::{Lexer, Next, ParserToken};
-use token::{Scan, Token};
-use utf8::Found;
+use token::Token;
 
 // The longest text that is read.
 pub const LIMIT: usize = 65536;
-
-// What the check of a whole text finds.
-#[derive(Clone, Copy)]
-pub enum Checked {
-    Fine,
-    // over 65,536 bytes
-    TooLong,
-    // no UTF-8 from this offset on
-    IllFormed(usize),
-    // no token starts at this offset
-    Unrecognized(usize),
-}
 
 // Blanks and line ends are no tokens for the parser.
 pub fn skipped(token: Token) -> bool
     ensures { result ≡ skipped token }
 {
-    let code = token.code();
-    if code == token::kind::BLANK {
-        return true;
-    }
-    code == token::kind::NEWLINE
+    matches!(token, Token::Blank | Token::Newline)
 }
 
 // The token of one byte that stands at the lexer's offset, by the byte's class.
@@ -52,7 +33,7 @@ fn mark(k: u8, from: Lexer) -> Next
     requires { Placed from × (from.at < limit) }
     ensures { result ≡ marked (opened k) from }
 {
-    let Scan::Hit(token, _) = scan::mark_of(k) else {
+    let Some((token, _)) = scan::mark_of(k) else {
         return Next::Unrecognized(from.at);
     };
     let behind = location::behind(from, false);
@@ -61,17 +42,18 @@ fn mark(k: u8, from: Lexer) -> Next
 }
 
 // The next token of the text behind the lexer's offset: rico's create_parser_token.
-pub fn next_token(lut: &[u8; 768], text: &[u8], lexer: Lexer) -> Next
-    requires { (lut.now ≡ tables) × (length text.now ≤ limit) × Placed lexer }
+pub fn next_token(text: &[u8], lexer: Lexer) -> Next
+    requires { (length text.now ≤ limit) × Placed lexer }
     ensures { result ≡ next text.now lexer }
 {
     let mut from = lexer;
+    // a step is a token, a blank or a line end; its lexer is the state
     loop {
         let at = from.at as usize;
         if text.len() <= at {
             return Next::End;
         }
-        let k = scan::class_at(lut, text, at);
+        let k = scan::class_at(text, at);
         if k == scan::BLANK {
             from = location::behind(from, false);
         } else if scan::is_line_end(k) {
@@ -79,8 +61,8 @@ pub fn next_token(lut: &[u8; 768], text: &[u8], lexer: Lexer) -> Next
         } else if scan::MARK <= k {
             return mark(k, from);
         } else {
-            let found = scan::scan_token(lut, text, at);
-            let Scan::Hit(token, n) = found else {
+            let found = scan::scan_token(text, at);
+            let Some((token, n)) = found else {
                 return Next::Unrecognized(from.at);
             };
             let end = at + n;
@@ -95,56 +77,52 @@ pub fn next_token(lut: &[u8; 768], text: &[u8], lexer: Lexer) -> Next
     }
 }
 
-// How many bytes at an offset can be passed at once: one of a mark and of blanks, all of any other token; none where no token starts.
-fn extent(lut: &[u8; 768], text: &[u8], at: usize) -> usize
-    requires { (lut.now ≡ tables) × (at < length text.now) }
+// How many bytes at an offset can be passed at once: one of a mark and of blanks, all of any other token. No token may start there.
+fn extent(text: &[u8], at: usize) -> Option<usize>
+    requires { at < length text.now }
     ensures { Extent text.now at result }
 {
-    let k = scan::class_at(lut, text, at);
+    let k = scan::class_at(text, at);
+    if k == scan::NONE {
+        return None;
+    }
     if scan::MARK <= k {
-        if k == scan::NONE {
-            return 0;
-        }
-        return 1;
+        return Some(1);
     }
     if scan::is_letter(k) {
-        return scan::word_extent(lut, text, at);
+        return Some(scan::word_extent(text, at));
     }
-    match scan::scan_token(lut, text, at) {
-        Scan::Hit(_, n) => n,
-        Scan::Miss => 0,
-    }
+    let (_, n) = scan::scan_token(text, at)?;
+    Some(n)
 }
 
 // The first offset where no token starts, the text cut from an offset on.
-pub fn unrecognized(lut: &[u8; 768], text: &[u8], from: usize) -> Found
-    requires { lut.now ≡ tables }
-    ensures { result ≡ found (unrecognized (cuts (drop from text.now)) from) }
+pub fn unrecognized(text: &[u8], from: usize) -> Option<usize>
+    ensures { result ≡ unrecognized (cuts (drop from text.now)) from }
 {
     let mut at = from;
+    // a step is an extent
     while at < text.len() {
-        let n = extent(lut, text, at);
-        if n == 0 {
-            return Found::At(at);
-        }
+        let Some(n) = extent(text, at) else {
+            return Some(at);
+        };
         at += n;
     }
-    Found::Nowhere
+    None
 }
 
 // The checks of a whole text that come before the grammar: 20, 21, 22.
-pub fn check(text: &[u8]) -> Checked
-    ensures { refusal result ≡ checked text.now }
+pub fn check(text: &[u8]) -> Result<(), Refusal>
+    ensures { found result ≡ checked text.now }
 {
     if LIMIT < text.len() {
-        return Checked::TooLong;
+        return Err(Refusal::at(ErrorKind::TextTooLong, 0));
     }
-    if let Found::At(at) = utf8::ill_formed(text) {
-        return Checked::IllFormed(at);
+    if let Some(at) = utf8::ill_formed(text) {
+        return Err(Refusal::at(ErrorKind::NotUtf8, at as u32));
     }
-    let lut = table::LUT;
-    match unrecognized(&lut, text, 0) {
-        Found::At(at) => Checked::Unrecognized(at),
-        Found::Nowhere => Checked::Fine,
+    if let Some(at) = unrecognized(text, 0) {
+        return Err(Refusal::at(ErrorKind::NoToken, at as u32));
     }
+    Ok(())
 }

@@ -8,7 +8,7 @@ ghost use Rattle.lexer.specs.Location.{Placed, ends_line, behind, pass, span_of,
 use token::Token;
 
 // A place: line and column from 1, byte offset from 0.
-#[derive(Clone, Copy)]
+#[derive(Clone, Copy, Debug, PartialEq, Eq)]
 pub struct Span {
     pub line: u32,
     pub column: u32,
@@ -16,29 +16,29 @@ pub struct Span {
 }
 
 // From the first byte to one past the last.
-#[derive(Clone, Copy)]
+#[derive(Clone, Copy, Debug, PartialEq, Eq)]
 pub struct LOC {
     pub start: Span,
     pub end: Span,
 }
 
 // A token and where it stands.
-#[derive(Clone, Copy)]
+#[derive(Clone, Copy, Debug, PartialEq, Eq)]
 pub struct ParserToken {
     pub token: Token,
     pub loc: LOC,
 }
 
 // The lexer by value: its offset, the lines passed, the offset where the line starts.
-#[derive(Clone, Copy)]
+#[derive(Clone, Copy, Debug, PartialEq, Eq)]
 pub struct Lexer {
     pub at: u32,
     pub line: u32,
     pub origin: u32,
 }
 
-// What stands behind the lexer's offset, blanks passed.
-#[derive(Clone, Copy)]
+// What stands behind the lexer's offset, blanks passed. An enum of its own: a Result of an Option would say the same three answers in two layers.
+#[derive(Clone, Copy, Debug, PartialEq, Eq)]
 pub enum Next {
     On(ParserToken, Lexer),
     End,
@@ -121,10 +121,8 @@ fn pass_block(comment: &[u8], lexer: Lexer) -> Lexer
     ensures { result ≡ pass comment.now T.BlockComment [] lexer }
 {
     let mut now = lexer;
-    let mut i: usize = 0;
-    while i < comment.len() {
-        now = behind(now, comment[i] == b'\n');
-        i += 1;
+    for &byte in comment {
+        now = behind(now, byte == b'\n');
     }
     now
 }
@@ -134,8 +132,7 @@ pub fn pass_lexeme(token: Token, bytes: &[u8], lexer: Lexer) -> Lexer
     requires { Placed lexer × (lexer.at + length bytes.now ≤ limit) × (is token T.Newline ≡ false) }
     ensures { result ≡ pass bytes.now token [] lexer }
 {
-    let code = token.code();
-    if code == token::kind::BLOCK_COMMENT {
+    if let Token::BlockComment = token {
         return pass_block(bytes, lexer);
     }
     Lexer {

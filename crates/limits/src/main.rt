@@ -4,51 +4,42 @@
 
 ghost use Rattle.std.specs.Prelude.{◌+◌, ◌≤◌, length};
 
-use parser::Answer;
-use std::io;
+use lexer::error::Refusal;
+use parser::{Answer, Counts};
 use std::io::Stdout;
+use std::{fmt, io};
 
-// Writes a blank and a number.
-fn write_next(out: Stdout, number: u32) -> io::Result<()> {
-    print!(out; " {number}")
+// Numbers, a blank before each.
+#[derive(Clone, Copy)]
+struct Numbers<'a>(&'a [u32]);
+
+impl fmt::Display for Numbers<'_> {
+    fn fmt<W: fmt::Write>(&self, f: &mut fmt::Formatter<W>) -> fmt::Result {
+        for number in self.0 {
+            write!(f, " {number}")?;
+        }
+        Ok(())
+    }
 }
 
 // Writes an answer: A and the counts, or R, number, place and length.
 fn write_answer(out: Stdout, answer: Answer) -> io::Result<()> {
     match answer {
-        Answer::Accepted { nodes, comments } => {
-            print!(out; "A")?;
-            write_next(out, nodes)?;
-            write_next(out, comments)
-        }
-        Answer::Refused {
-            number,
-            place,
-            length,
-        } => {
-            print!(out; "R")?;
-            write_next(out, number)?;
-            write_next(out, place)?;
-            write_next(out, length)
-        }
+        Ok(Counts { nodes, comments }) => print!(out; "A {nodes} {comments}"),
+        Err(
+            Refusal {
+                kind,
+                place,
+                length,
+            },
+        ) => print!(out; "R {} {place} {length}", kind.number()),
     }
-}
-
-// Writes a table's numbers.
-fn write_table(out: Stdout, table: &[u32]) -> io::Result<()> {
-    print!(out; " |")?;
-    for i in 0..table.len() {
-        write_next(out, table[i])?;
-    }
-    Ok(())
 }
 
 // Reads a text with tables of so many numbers.
 fn try_tables(out: Stdout, text: &[u8], nodes: &mut [u32], comments: &mut [u32]) -> io::Result<()> {
     write_answer(out, reader::read(text, nodes, comments))?;
-    write_table(out, nodes)?;
-    write_table(out, comments)?;
-    println!(out)
+    println!(out; " |{} |{}", Numbers(nodes), Numbers(comments))
 }
 
 fn try_small(out: Stdout, text: &[u8], nodes: usize, comments: usize) -> io::Result<()>
@@ -76,51 +67,46 @@ fn try_long(out: Stdout, text: &[u8]) -> io::Result<()> {
 fn put(text: &mut [u8], at: usize, part: &[u8])
     requires { at + length part.now ≤ length text.old }
 {
-    for i in 0..part.len() {
-        text[at + i] = part[i];
-    }
+    let end = at + part.len();
+    text[at..end].copy_from_slice(part);
 }
 
 // `const i8 X=` and so many list values inside one another.
 fn try_values(out: Stdout, depth: usize) -> io::Result<()>
     requires { depth ≤ 33 }
 {
-    let mut space = [32u8; 100];
-    let text: &mut [u8] = &mut space;
-    put(text, 0, b"const i8 X=");
-    for i in 0..depth {
-        text[11 + i] = b'[';
-    }
-    for i in 0..depth {
-        text[11 + depth + i] = b']';
-    }
-    try_long(out, text)
+    let mut text = [b' '; 100];
+    put(&mut text, 0, b"const i8 X=");
+    let middle = 11 + depth;
+    let end = middle + depth;
+    text[11..middle].fill(b'[');
+    text[middle..end].fill(b']');
+    try_long(out, &text)
 }
 
 // `typedef`, so many list types inside one another, i8, and a name.
 fn try_types(out: Stdout, depth: usize) -> io::Result<()>
     requires { depth ≤ 33 }
 {
-    let mut space = [32u8; 300];
-    let text: &mut [u8] = &mut space;
-    put(text, 0, b"typedef ");
+    let mut text = [b' '; 300];
+    put(&mut text, 0, b"typedef ");
     for i in 0..depth {
-        put(text, 8 + 5 * i, b"list<");
+        put(&mut text, 8 + 5 * i, b"list<");
     }
     let inner = 8 + 5 * depth;
-    put(text, inner, b"i8");
-    for i in 0..depth {
-        text[inner + 2 + i] = b'>';
-    }
-    text[inner + depth + 3] = b'A';
-    try_long(out, text)
+    put(&mut text, inner, b"i8");
+    let marks = inner + 2;
+    let end = marks + depth;
+    text[marks..end].fill(b'>');
+    text[end + 1] = b'A';
+    try_long(out, &text)
 }
 
 // So many blanks.
 fn try_blanks(out: Stdout, count: usize) -> io::Result<()>
     requires { count ≤ 65537 }
 {
-    let space = [32u8; 65537];
+    let space = [b' '; 65537];
     try_long(out, &space[..count])
 }
 

@@ -10,41 +10,17 @@ ghost use Rattle.enum_numbers.specs.Numbering.{numbering};
 ghost use Rattle.move_tables.specs.Moves.{widens, narrows, said};
 ghost use Rattle.place.specs.Place.{place_of};
 ghost use Rattle.file.specs.Run.{requests_of, memory, runs, Unaltered};
-ghost use Rattle.link.specs.Told.{laid, three};
+ghost use Rattle.link.specs.Told.{laid, laid_with, three};
 
-use enum_members::Numbered;
-use lexer::{Checked, error};
 use move_tables::Moved;
-use parser::Answer;
-use writer::Printed;
 
-// Numbers at the front of a slice, as many as it holds, and 0 behind them.
-fn fill_u32(slice: &mut [u32], numbers: &[u32])
-    ensures { slice.new ≡ laid numbers.now slice.old }
+// Numbers at the front of a slice, as many as it holds, and `rest` behind them.
+fn fill<T: Copy>(slice: &mut [T], numbers: &[T], rest: T)
+    ensures { slice.new ≡ laid_with rest numbers.now slice.old }
 {
-    let mut i = 0;
-    while i < slice.len() {
-        let mut number = 0; // behind the numbers
-        if i < numbers.len() {
-            number = numbers[i];
-        }
+    for i in 0..slice.len() {
+        let number = if i < numbers.len() { numbers[i] } else { rest };
         slice[i] = number;
-        i += 1;
-    }
-}
-
-// The same in 64 bits.
-fn fill_u64(slice: &mut [u64], numbers: &[u64])
-    ensures { slice.new ≡ laid numbers.now slice.old }
-{
-    let mut i = 0;
-    while i < slice.len() {
-        let mut number = 0;
-        if i < numbers.len() {
-            number = numbers[i];
-        }
-        slice[i] = number;
-        i += 1;
     }
 }
 
@@ -54,22 +30,8 @@ pub extern "C" fn hirvelan_check(text: &[u8], answer: &mut [u32])
     ensures { answer.new ≡ laid (numbers (checked text.now)) answer.old }
 {
     match lexer::check(text) {
-        Checked::Fine => {
-            let told = [0];
-            fill_u32(answer, &told);
-        }
-        Checked::TooLong => {
-            let told = [error::TEXT_TOO_LONG, 0, 0];
-            fill_u32(answer, &told);
-        }
-        Checked::IllFormed(at) => {
-            let told = [error::NOT_UTF8, at as u32, 0];
-            fill_u32(answer, &told);
-        }
-        Checked::Unrecognized(at) => {
-            let told = [error::NO_TOKEN, at as u32, 0];
-            fill_u32(answer, &told);
-        }
+        Ok(()) => fill(answer, &[0], 0),
+        Err(refusal) => fill(answer, &refusal.numbers(), 0),
     }
 }
 
@@ -86,21 +48,8 @@ pub extern "C" fn hirvelan_read(
         × (answer.new ≡ laid (numbers (reading text.now nodes.old comments.old).says) answer.old) }
 {
     match reader::read(text, nodes, comments) {
-        Answer::Accepted {
-            nodes: n,
-            comments: c,
-        } => {
-            let told = [0, n, c];
-            fill_u32(answer, &told);
-        }
-        Answer::Refused {
-            number,
-            place,
-            length,
-        } => {
-            let told = [number, place, length];
-            fill_u32(answer, &told);
-        }
+        Ok(counts) => fill(answer, &[0, counts.nodes, counts.comments], 0),
+        Err(refusal) => fill(answer, &refusal.numbers(), 0),
     }
 }
 
@@ -119,18 +68,8 @@ pub extern "C" fn hirvelan_enum_numbers(
         × (answer.new ≡ laid (numbers (numbering text.now nodes.old comments.old list.old).says) answer.old) }
 {
     match enum_numbers::numbers(text, nodes, comments, list) {
-        Numbered::Accepted { members } => {
-            let told = [0, members];
-            fill_u32(answer, &told);
-        }
-        Numbered::Refused {
-            number,
-            place,
-            length,
-        } => {
-            let told = [number, place, length];
-            fill_u32(answer, &told);
-        }
+        Ok(members) => fill(answer, &[0, members], 0),
+        Err(refusal) => fill(answer, &refusal.numbers(), 0),
     }
 }
 
@@ -139,14 +78,8 @@ fn tell_moved(answer: &mut [u32], moved: Moved)
     ensures { answer.new ≡ laid (numbers (said moved)) answer.old }
 {
     match moved {
-        Moved::Accepted { records } => {
-            let told = [0, records];
-            fill_u32(answer, &told);
-        }
-        Moved::Refused { number, place } => {
-            let told = [number, place, 0];
-            fill_u32(answer, &told);
-        }
+        Ok(records) => fill(answer, &[0, records], 0),
+        Err(refusal) => fill(answer, &refusal.numbers(), 0),
     }
 }
 
@@ -176,8 +109,7 @@ pub extern "C" fn hirvelan_place(text: &[u8], offset: u32, place: &mut [u32])
     ensures { place.new ≡ laid (three (place_of text.now offset)) place.old }
 {
     let found = place::find(text, offset);
-    let told = [found.line, found.column, found.index];
-    fill_u32(place, &told);
+    fill(place, &[found.line, found.column, found.index], 0);
 }
 
 // Prints a text at an indent. The answer's numbers: 0, the counts of nodes and of comments and the bytes written, or a refusal's number, place and length.
@@ -196,21 +128,19 @@ pub extern "C" fn hirvelan_print(
         × (answer.new ≡ laid (numbers (printing text.now indent nodes.old comments.old out.old).says) answer.old) }
 {
     match printer::print(text, indent, nodes, comments, out) {
-        Printed::Accepted {
-            nodes: n,
-            comments: c,
-            bytes,
-        } => {
-            let told = [0, n as u64, c as u64, bytes as u64];
-            fill_u64(answer, &told);
-        }
-        Printed::Refused {
-            number,
-            place,
-            length,
-        } => {
-            let told = [number as u64, place as u64, length as u64];
-            fill_u64(answer, &told);
+        Ok(print) => fill(
+            answer,
+            &[
+                0,
+                print.nodes as u64,
+                print.comments as u64,
+                print.bytes as u64,
+            ],
+            0,
+        ),
+        Err(refusal) => {
+            let [number, place, length] = refusal.numbers();
+            fill(answer, &[number as u64, place as u64, length as u64], 0)
         }
     }
 }

@@ -4,7 +4,7 @@
 --     up_from                                           those of p, which is one of them
 --     scan_start, scan_on, scan_bad, scan_done          from record to record, until a parent is bad
 use mathlib.Core.Path.{◌≡◌, refl, sym, ap, ◌∙◌}
-use mathlib.Core.Option.{Option, some, none}
+use Rattle.std.specs.Prelude.{Option, Some, None}
 use mathlib.Core.Bool.{Bool, true, false, cond, ◌||◌}
 use mathlib.Core.List.{List, [], ◌∷◌}
 use Prim.Native.Nat.{ℕ, suc, ◌+◌, ◌*◌, ◌-◌, ◌≤◌, ◌<◌}
@@ -14,7 +14,7 @@ use borrow.Author.Tests.{eq-eqb, ne_eqb, eqb-true}
 use lib.Dec.{eqb}
 use Rattle.ast.specs.Records.{no_parent}
 use Rattle.move_tables.specs.Moves.{most_records, among, from, bad_parent}
-use Rattle.move_tables.specs.Walk.{parent_in, parents_from, number, Up, top, up, Holds, Stands}
+use Rattle.move_tables.specs.Walk.{parent_in, parents_from, Up, top, up, Holds, Stands}
 
 -- a measure: the parent of a record has a lower one
 unfoldable pub rank : ℕ → ℕ
@@ -140,12 +140,11 @@ module _ {w : ℕ} {t : List ℕ} where
     unfolding parents_from
     one = let e : count - n ≡ suc (count - suc n) = omega arith in rw e
 
-    pub scan_bad : among (parent_in w t n) s.ancestors ≡ false → n ≡ number found
-    unfolding bad_parent number
+    pub scan_bad : among (parent_in w t n) s.ancestors ≡ false → Some n ≡ found
+    unfolding bad_parent
     scan_bad e =
         let d : bad_parent n s.ancestors (parent_in w t n ∷ parents_from w t (count - suc n) (suc n)) ≡ found = ap (bad_parent n s.ancestors) (sym one) ∙ s.same in
-        let f : some n ≡ found = rw e at d in
-        rw (sym f)
+        rw e at d
 
     pub scan_on : among (parent_in w t n) s.ancestors ≡ true → Scan w t count (n + 1) n found
     unfolding bad_parent
@@ -156,9 +155,8 @@ module _ {w : ℕ} {t : List ℕ} where
         let i : n < suc n = omega arith in
         rw k (record { within = omega arith; ancestors = n ∷ from (parent_in w t n) s.ancestors; is = up i (up_from (parent_in w t n) e s.is); same = f })
 
-  pub scan_done : {count n at : ℕ} {found : Option ℕ} → count ≤ n → Scan w t count n at found → no_parent ≡ number found
-  unfolding bad_parent number parents_from
+  pub scan_done : {count n at : ℕ} {found : Option ℕ} → count ≤ n → Scan w t count n at found → None ≡ found
+  unfolding bad_parent parents_from
   scan_done {count} {n} {found = found} h s =
       let e : count - n ≡ 0 = omega arith in
-      let d : none ≡ found = rw e at s.same in
-      rw (sym d)
+      rw e at s.same

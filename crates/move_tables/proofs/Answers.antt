@@ -1,65 +1,29 @@
 -- The moves' answers, case by case, as the code finds them.
 use mathlib.Core.Path.{◌≡◌, refl, sym, ap, ◌∙◌}
-use mathlib.Core.Option.{Option, some, none}
-use mathlib.Core.Bool.{Bool, true, false, cond, ◌&&◌}
+use Rattle.std.specs.Prelude.{Option, Some, None}
+use mathlib.Core.Bool.{Bool, true, false, ◌&&◌}
 use mathlib.Core.List.{List, [], ◌∷◌}
-use Prim.Native.Nat.{ℕ, zero, suc, ◌+◌, ◌*◌, ◌/◌, ◌≤◌, ◌<◌}
+use Prim.Native.Nat.{ℕ, ◌*◌, ◌/◌, ◌%◌, ◌≤◌, ◌<◌}
 use native.Mathlib.Omega.{arith}
+use native.Mathlib.Nat.{div-add-mod'}
 use borrow.Author.Tests.{eq-eqb, ne_eqb, lt-ltb, le-leb, lt-leb}
 use lib.Dec.{eqb}
-use lib.ListN.{length, get_or}
+use lib.ListN.{length}
 use Rattle.ast.specs.Lists.{All}
 use Rattle.lexer.specs.Error.{NodesFull, NotMovable}
 use Rattle.lexer.specs.Outcome.{accepted, refused}
-use Rattle.ast.specs.Column.{Parent, Past}
-use Rattle.ast.specs.Records.{comment_width, node_width, no_parent, room, concat, filled}
+use Rattle.ast.specs.Column.{Parent}
+use Rattle.ast.specs.Records.{comment_width, node_width, no_parent, room, chunks, concat, filled}
 use Rattle.ast.proofs.Counts.{Wide, concat_width}
-use Rattle.move_tables.specs.declared.Moved.TheVariants.{Accepted}
-use Rattle.move_tables.specs.Moves.{narrow_width, most_records, records, whole, parents, among, from, bad_parent, past, bad_tenth, widened, narrowed, unless, first_bad_parent, widening, narrowing, into, widens, narrows, said, told}
+use Rattle.std.specs.Prelude.{Ok}
+use Rattle.lexer.specs.Refusal.{said_by}
+use Rattle.move_tables.specs.Moves.{narrow_width, most_records, records, whole, bad_parent, bad_tenth, widened, narrowed, unless, first_bad_parent, widening, narrowing, into, widens, narrows, told}
 use Rattle.steps.specs.Into.{wiped}
-use Rattle.move_tables.specs.Walk.{parents_from, number, walk, lower_bad, writes, Good, Copied}
+use Rattle.move_tables.specs.Walk.{parents_from, walk, writes, Good, Copied}
 use Rattle.move_tables.proofs.Lists.{whole_wide, whole_length, whole_few, chunks_count}
 use Rattle.move_tables.proofs.Back.{widened_wide, narrowed_wide, widened_count, narrowed_count, written}
 use Rattle.move_tables.proofs.Copying.{placed}
-use Rattle.move_tables.proofs.Results.{parents_are, tenth_is, narrow_is, widen_is}
-
--- ---- a number that is found, or none
-
-pub found : (o : Option ℕ) (b : ℕ) → b ≡ number o → (b ≡ no_parent → ⊥) → o ≡ some b
-unfolding number
-found none b e d = absurd (d e)
-found (some n) b e d = ap some (sym e)
-
-pub missing : (o : Option ℕ) (b : ℕ) → ((m : ℕ) → o ≡ some m → m < most_records) → b ≡ number o → b ≡ no_parent → o ≡ none
-unfolding number no_parent
-missing none b f e d = refl
-missing (some n) b f e d = absurd (omega (arith, f n refl, e, d))
-
-some_same : {n m : ℕ} → some n ≡ some m → n ≡ m
-some_same e = cc
-
-parent_below : (n m : ℕ) (ancestors ps : List ℕ) → bad_parent n ancestors ps ≡ some m → m < n + length ps
-unfolding bad_parent
-parent_below n m ancestors [] e = let z : ◌≡◌ {A = ℕ} 0 1 = cc in absurd (omega arith)
-parent_below n m ancestors (p ∷ ps) e = by (among p ancestors) e (parent_below (suc n) m (n ∷ from p ancestors) ps)
-  where
-    by : (b : Bool) → cond b (bad_parent (suc n) (n ∷ from p ancestors) ps) (some n) ≡ some m → (bad_parent (suc n) (n ∷ from p ancestors) ps ≡ some m → m < suc n + length ps) → m < n + suc (length ps)
-    by true k q = omega (arith, q k)
-    by false k q = omega (arith, some_same k)
-
-tenth_below : (n m : ℕ) (rs : List (List ℕ)) → bad_tenth n rs ≡ some m → m < n + length rs
-unfolding bad_tenth
-tenth_below n m [] e = let z : ◌≡◌ {A = ℕ} 0 1 = cc in absurd (omega arith)
-tenth_below n m (r ∷ rs) e = by (eqb (get_or r Past 0) (past n (suc n) (parents rs))) e (tenth_below (suc n) m rs)
-  where
-    by : (b : Bool) → cond b (bad_tenth (suc n) rs) (some n) ≡ some m → (bad_tenth (suc n) rs ≡ some m → m < suc n + length rs) → m < n + suc (length rs)
-    by true k q = omega (arith, q k)
-    by false k q = omega (arith, some_same k)
-
-parents_count : (w : ℕ) (t : List ℕ) (k n : ℕ) → length (parents_from w t k n) ≡ k
-unfolding parents_from
-parents_count w t zero n = refl
-parents_count w t (suc k) n = ap suc (parents_count w t k (suc n))
+use Rattle.move_tables.proofs.Results.{parents_are, narrow_is, widen_is}
 
 -- ---- a table's length and its parents
 
@@ -70,41 +34,40 @@ and_no false = refl
 -- a movable length and good parents
 pub record Fine (w : ℕ) (t : List ℕ) : Type 0 where
   pub fits : whole w t ≡ true
-  pub parents_good : first_bad_parent (records w t) ≡ none
+  pub parents_good : first_bad_parent (records w t) ≡ None
   pub good : Good w t (length t / w)
 
 module _ (w : ℕ) (t : List ℕ) where
-  pub uneven : (length t / w * w ≡ length t → ⊥) → whole w t ≡ false
+  pub uneven : (length t % w ≡ 0 → ⊥) → whole w t ≡ false
   unfolding whole room
-  uneven d = rw (ne_eqb (length t / w * w) (length t) d)
+  uneven d = let q = div-add-mod' (length t) w in rw (ne_eqb (length t / w * w) (length t) (λ e. d (omega (arith, q, e))))
 
   pub many : most_records < length t / w → whole w t ≡ false
   unfolding whole room
   many h = rw (lt-leb (length t / w) most_records h) (and_no (eqb (length t / w * w) (length t)))
 
-  module _ (even : length t / w * w ≡ length t) (few : length t / w ≤ most_records) where
+  module _ (even : length t % w ≡ 0) (few : length t / w ≤ most_records) where
+    fits : length t / w * w ≡ length t
+    fits = let q = div-add-mod' (length t) w in omega (arith, q, even)
+
     pub is_whole : whole w t ≡ true
     unfolding whole room
-    is_whole = rw (eq-eqb (length t / w * w) (length t) even, le-leb (length t / w) most_records few)
+    is_whole = rw (eq-eqb (length t / w * w) (length t) fits, le-leb (length t / w) most_records few)
 
-    module _ (h : Parent < w) (b : ℕ) (e : b ≡ number (bad_parent 0 (no_parent ∷ []) (parents_from w t (length t / w) 0))) where
-      first_are : first_bad_parent (records w t) ≡ bad_parent 0 (no_parent ∷ []) (parents_from w t (length t / w) 0)
+    module _ (h : Parent < w) {o : Option ℕ} (e : o ≡ bad_parent 0 (no_parent ∷ []) (parents_from w t (length t / w) 0)) where
+      first_are : first_bad_parent (records w t) ≡ o
       unfolding first_bad_parent
-      first_are = ap (bad_parent 0 (no_parent ∷ [])) (parents_are w t h)
+      first_are = ap (bad_parent 0 (no_parent ∷ [])) (parents_are w t h) ∙ sym e
 
-      pub bad_found : (b ≡ no_parent → ⊥) → first_bad_parent (records w t) ≡ some b
-      bad_found d = first_are ∙ found _ b e d
+      pub bad_found : {b : ℕ} → o ≡ Some b → first_bad_parent (records w t) ≡ Some b
+      bad_found d = first_are ∙ d
 
-      pub fine : b ≡ no_parent → Fine w t
-      fine d =
-          let z = parents_count w t (length t / w) 0 in
-          let none_bad : bad_parent 0 (no_parent ∷ []) (parents_from w t (length t / w) 0) ≡ none =
-          missing _ b (λ m q. omega (arith, parent_below 0 m (no_parent ∷ []) (parents_from w t (length t / w) 0) q)) e d in
-          record {
-            fits = is_whole;
-            parents_good = first_are ∙ none_bad;
-            good = record { holds = record { wide = h; within = omega arith; few = few }; good = none_bad };
-          }
+      pub fine : o ≡ None → Fine w t
+      fine d = record {
+        fits = is_whole;
+        parents_good = first_are ∙ d;
+        good = record { holds = record { wide = h; within = let q = fits in omega arith; few = few }; good = sym e ∙ d };
+      }
 
 module _ (t out : List ℕ) where
   short : (rs : List (List ℕ)) → length out < length (concat rs) → into (refused NodesFull 0 0) out ≡ into (accepted rs) out
@@ -117,7 +80,7 @@ module _ (t out : List ℕ) where
   unfolding widens widening
   widen_length e = rw e
 
-  pub widen_parent : (b : ℕ) → whole narrow_width t ≡ true → first_bad_parent (records narrow_width t) ≡ some b → into (refused NotMovable b 0) out ≡ widens t out
+  pub widen_parent : (b : ℕ) → whole narrow_width t ≡ true → first_bad_parent (records narrow_width t) ≡ Some b → into (refused NotMovable b 0) out ≡ widens t out
   unfolding widens widening unless
   widen_parent b e g = rw (e, g)
 
@@ -141,8 +104,8 @@ module _ (t out : List ℕ) where
 
     pub widen_done : (first mid after : List ℕ) → length t / narrow_width * node_width ≤ length out → Copied t narrow_width node_width (length t / narrow_width) out first →
         mid ≡ wiped (length t / narrow_width * node_width) first → after ≡ walk writes 0 (no_parent ∷ []) (parents_from narrow_width t (length t / narrow_width) 0) mid →
-        told (Accepted (length t / narrow_width)) after ≡ widens t out
-    unfolding records room comment_width node_width said
+        told (Ok (length t / narrow_width)) after ≡ widens t out
+    unfolding records room comment_width node_width said_by
     widen_done first mid after h d x a =
         let few = whole_few narrow_width t f.fits in
         let l = whole_length narrow_width t f.fits in
@@ -157,29 +120,23 @@ module _ (t out : List ℕ) where
   unfolding narrows narrowing
   narrow_length e = rw e
 
-  pub narrow_parent : (b : ℕ) → whole node_width t ≡ true → first_bad_parent (records node_width t) ≡ some b → into (refused NotMovable b 0) out ≡ narrows t out
+  pub narrow_parent : (b : ℕ) → whole node_width t ≡ true → first_bad_parent (records node_width t) ≡ Some b → into (refused NotMovable b 0) out ≡ narrows t out
   unfolding narrows narrowing unless
   narrow_parent b e g = rw (e, g)
 
-  module _ (f : Fine node_width t) (b : ℕ) (q : b ≡ walk (lower_bad t) 0 (no_parent ∷ []) (parents_from node_width t (length t / node_width) 0) no_parent) where
-    tenth_found : b ≡ number (bad_tenth 0 (records node_width t))
+  module _ (f : Fine node_width t) {o : Option ℕ} (q : o ≡ bad_tenth 0 (chunks node_width (length t / node_width) t)) where
+    tenth_is : bad_tenth 0 (records node_width t) ≡ o
     unfolding records room
-    tenth_found = q ∙ tenth_is t (length t / node_width) (whole_few node_width t f.fits) f.good
+    tenth_is = sym q
 
-    pub narrow_tenth : (b ≡ no_parent → ⊥) → into (refused NotMovable b 0) out ≡ narrows t out
+    pub narrow_tenth : {b : ℕ} → o ≡ Some b → into (refused NotMovable b 0) out ≡ narrows t out
     unfolding narrows narrowing unless
-    narrow_tenth d = rw (f.fits, f.parents_good, found _ b tenth_found d)
+    narrow_tenth d = rw (f.fits, f.parents_good, tenth_is ∙ d)
 
-    module _ (d : b ≡ no_parent) where
-      none_wrong : bad_tenth 0 (records node_width t) ≡ none
-      unfolding records room
-      none_wrong =
-          let few = whole_few node_width t f.fits in
-          missing (bad_tenth 0 (records node_width t)) b (λ m k. let z = chunks_count node_width (length t / node_width) t in omega (arith, tenth_below 0 m (records node_width t) k)) tenth_found d
-
+    module _ (d : o ≡ None) where
       narrows_are : narrows t out ≡ into (accepted (narrowed (records node_width t))) out
       unfolding narrows narrowing unless
-      narrows_are = rw (f.fits, f.parents_good, none_wrong)
+      narrows_are = rw (f.fits, f.parents_good, tenth_is ∙ d)
 
       thin : All (Wide narrow_width) (narrowed (records node_width t))
       thin = narrowed_wide (whole_wide node_width t f.fits)
@@ -195,8 +152,8 @@ module _ (t out : List ℕ) where
       narrow_short h = short (narrowed (records node_width t)) (rw thin_is h) ∙ sym narrows_are
 
       pub narrow_done : (first after : List ℕ) → length t / node_width * narrow_width ≤ length out → Copied t node_width narrow_width (length t / node_width) out first →
-          after ≡ wiped (length t / node_width * narrow_width) first → told (Accepted (length t / node_width)) after ≡ narrows t out
-      unfolding records room said
+          after ≡ wiped (length t / node_width * narrow_width) first → told (Ok (length t / node_width)) after ≡ narrows t out
+      unfolding records room said_by
       narrow_done first after h c x =
           let g : after ≡ filled (narrowed (records node_width t)) out = narrow_is t (length t / node_width) out after thin h (placed after (omega arith) h c x) in
           sym (narrows_are ∙ written (narrowed (records node_width t)) out (rw thin_is h) ∙ rw (number_is, sym g))

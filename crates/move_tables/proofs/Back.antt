@@ -4,7 +4,7 @@
 use mathlib.Core.Path.{◌≡◌, refl, sym, ap, ◌∙◌}
 use mathlib.Core.Bool.{Bool, true, false, cond}
 use mathlib.Core.List.{List, [], ◌∷◌, ◌++◌}
-use mathlib.Core.Option.{Option, some, none}
+use Rattle.std.specs.Prelude.{Option, Some, None}
 use Prim.Native.Nat.{ℕ, suc, ◌*◌, ◌-◌, ◌≤◌}
 use native.Mathlib.Omega.{arith}
 use borrow.Author.Tests.{eqb-true, eq-eqb, le-ltb}
@@ -60,7 +60,7 @@ unfolding widened narrowed
 narrowed_widened n anil = refl
 narrowed_widened n (acons {x = r} {xs = rs} h hs) = rw (take_at r (past n (suc n) (parents rs) ∷ []) narrow_width h, narrowed_widened (suc n) hs)
 
-pub widened_tenths : {rs : List (List ℕ)} (n : ℕ) → All (Wide narrow_width) rs → bad_tenth n (widened n rs) ≡ none
+pub widened_tenths : {rs : List (List ℕ)} (n : ℕ) → All (Wide narrow_width) rs → bad_tenth n (widened n rs) ≡ None
 unfolding widened bad_tenth comment_width
 widened_tenths n anil = refl
 widened_tenths n (acons {x = r} {xs = rs} h hs) =
@@ -77,17 +77,17 @@ ten_split r h =
     none_left [] e = refl
     none_left (x ∷ l) e = absurd (omega arith)
 
-some_none : {n : ℕ} → some n ≡ none → ⊥
+some_none : {n : ℕ} → Some n ≡ None → ⊥
 some_none e = let z : ◌≡◌ {A = ℕ} 0 1 = cc in omega arith
 
-narrowed_back_rows : {rs : List (List ℕ)} (n : ℕ) → All (Wide node_width) rs → bad_tenth n rs ≡ none → widened n (narrowed rs) ≡ rs
+narrowed_back_rows : {rs : List (List ℕ)} (n : ℕ) → All (Wide node_width) rs → bad_tenth n rs ≡ None → widened n (narrowed rs) ≡ rs
 unfolding widened narrowed bad_tenth comment_width
 narrowed_back_rows n anil e = refl
 narrowed_back_rows n (acons {x = r} {xs = rs} h hs) e =
     by (eqb (get_or r Past 0) (past n (suc n) (parents rs))) refl e (narrowed_back_rows (suc n) hs)
   where
-    by : (b : Bool) → eqb (get_or r Past 0) (past n (suc n) (parents rs)) ≡ b → cond b (bad_tenth (suc n) rs) (some n) ≡ none →
-        (bad_tenth (suc n) rs ≡ none → widened (suc n) (narrowed rs) ≡ rs) → widened n (narrowed (r ∷ rs)) ≡ r ∷ rs
+    by : (b : Bool) → eqb (get_or r Past 0) (past n (suc n) (parents rs)) ≡ b → cond b (bad_tenth (suc n) rs) (Some n) ≡ None →
+        (bad_tenth (suc n) rs ≡ None → widened (suc n) (narrowed rs) ≡ rs) → widened n (narrowed (r ∷ rs)) ≡ r ∷ rs
     by true g k q = rw (narrowed_parents rs, sym (eqb-true (get_or r Past 0) (past n (suc n) (parents rs)) g), ten_split r h, q k)
     by false g k q = absurd (some_none k)
 
@@ -96,10 +96,10 @@ narrowed_back_rows n (acons {x = r} {xs = rs} h hs) e =
 refused_moved : {e p n : ℕ} {rs : List (List ℕ)} → refused e p n ≡ accepted rs → ⊥
 refused_moved x = let z : ◌≡◌ {A = ℕ} 0 1 = cc in omega arith
 
-unless_none : (o : Option ℕ) (x : Outcome (List (List ℕ))) {rs : List (List ℕ)} → unless o x ≡ accepted rs → (o ≡ none) × (x ≡ accepted rs)
+unless_none : (o : Option ℕ) (x : Outcome (List (List ℕ))) {rs : List (List ℕ)} → unless o x ≡ accepted rs → (o ≡ None) × (x ≡ accepted rs)
 unfolding unless
-unless_none none x e = (refl, e)
-unless_none (some n) x e = absurd (refused_moved e)
+unless_none None x e = (refl, e)
+unless_none (Some n) x e = absurd (refused_moved e)
 
 cond_moved : (b : Bool) (x : Outcome (List (List ℕ))) {rs : List (List ℕ)} → cond b x (refused NotMovable 0 0) ≡ accepted rs → (b ≡ true) × (x ≡ accepted rs)
 cond_moved true x e = (refl, e)
@@ -108,14 +108,14 @@ cond_moved false x e = absurd (refused_moved e)
 -- a table of nine numbers that is moved
 pub record Wider (t : List ℕ) (rs : List (List ℕ)) : Type 0 where
   pub fits : whole narrow_width t ≡ true
-  pub good : first_bad_parent (records narrow_width t) ≡ none
+  pub good : first_bad_parent (records narrow_width t) ≡ None
   pub are : rs ≡ widened 0 (records narrow_width t)
 
 -- a table of ten
 pub record Narrower (t : List ℕ) (rs : List (List ℕ)) : Type 0 where
   pub fits : whole node_width t ≡ true
-  pub good : first_bad_parent (records node_width t) ≡ none
-  pub tenths : bad_tenth 0 (records node_width t) ≡ none
+  pub good : first_bad_parent (records node_width t) ≡ None
+  pub tenths : bad_tenth 0 (records node_width t) ≡ None
   pub are : rs ≡ narrowed (records node_width t)
 
 pub widening_moved : (t : List ℕ) (rs : List (List ℕ)) → widening t ≡ accepted rs → Wider t rs
@@ -136,11 +136,11 @@ narrowing_moved t rs e =
     record { fits = a.0; good = cc; tenths = cc; are = cc }
 
 -- records that move
-pub widening_of : (rs : List (List ℕ)) → All (Wide narrow_width) rs → length rs ≤ most_records → first_bad_parent rs ≡ none → widening (concat rs) ≡ accepted (widened 0 rs)
+pub widening_of : (rs : List (List ℕ)) → All (Wide narrow_width) rs → length rs ≤ most_records → first_bad_parent rs ≡ None → widening (concat rs) ≡ accepted (widened 0 rs)
 unfolding widening unless
 widening_of rs hs few good = rw (concat_whole narrow_width_law hs few, concat_records narrow_width_law hs, good)
 
-pub narrowing_of : (rs : List (List ℕ)) → All (Wide node_width) rs → length rs ≤ most_records → first_bad_parent rs ≡ none → bad_tenth 0 rs ≡ none → narrowing (concat rs) ≡ accepted (narrowed rs)
+pub narrowing_of : (rs : List (List ℕ)) → All (Wide node_width) rs → length rs ≤ most_records → first_bad_parent rs ≡ None → bad_tenth 0 rs ≡ None → narrowing (concat rs) ≡ accepted (narrowed rs)
 unfolding narrowing unless
 narrowing_of rs hs few good tenths = rw (concat_whole node_width_law hs few, concat_records node_width_law hs, good, tenths)
 
@@ -150,7 +150,7 @@ widening_undone t rs e =
     let m = widening_moved t rs e in
     let hs = whole_wide narrow_width t m.fits in
     let few : length (widened 0 (records narrow_width t)) ≤ most_records = rw (widened_count 0 (records narrow_width t)) (whole_count narrow_width t m.fits) in
-    let good : first_bad_parent (widened 0 (records narrow_width t)) ≡ none = rw (widened_parents 0 hs) m.good in
+    let good : first_bad_parent (widened 0 (records narrow_width t)) ≡ None = rw (widened_parents 0 hs) m.good in
     rw m.are (narrowing_of _ (widened_wide 0 hs) few good (widened_tenths 0 hs) ∙ ap accepted (narrowed_widened 0 hs))
 
 pub narrowing_undone : (t : List ℕ) (rs : List (List ℕ)) → narrowing t ≡ accepted rs → widening (concat rs) ≡ accepted (records node_width t)
@@ -159,7 +159,7 @@ narrowing_undone t rs e =
     let m = narrowing_moved t rs e in
     let hs = whole_wide node_width t m.fits in
     let few : length (narrowed (records node_width t)) ≤ most_records = rw (narrowed_count (records node_width t)) (whole_count node_width t m.fits) in
-    let good : first_bad_parent (narrowed (records node_width t)) ≡ none = rw (narrowed_parents (records node_width t)) m.good in
+    let good : first_bad_parent (narrowed (records node_width t)) ≡ None = rw (narrowed_parents (records node_width t)) m.good in
     rw m.are (widening_of _ (narrowed_wide hs) few good ∙ ap accepted (narrowed_back_rows 0 hs m.tenths))
 
 -- ---- tables

@@ -1,6 +1,6 @@
 -- The first nine numbers of each record, copied, and 0 past the records.
---     Carrying, carry-..                the numbers of a record copied one after another
---     Copying, copy-..                  record after record
+--     carried                           the numbers of a record
+--     copy_start, copy_on, copy_done    record after record
 --     placed                            the output then
 use mathlib.Core.Path.{◌≡◌, refl, sym, ap, ◌∙◌}
 use mathlib.Core.Bool.{Bool, true, false}
@@ -10,8 +10,9 @@ use native.Mathlib.Omega.{arith}
 use native.Mathlib.Nat.{mul-le-mul_right}
 use borrow.Author.Tests.{ltb-true, ltb-false}
 use lib.Dec.{ltb}
-use lib.ListN.{length, take, get_or, set, replicate, length-set, length-append, length-replicate, get_or-replicate, get_or-append}
-use lib.Seq.{length-take-le, get_or-take, get_or-append-add, get_or-set_same, get_or-set_other}
+use lib.ListN.{length, take, drop, get_or, replicate, length-drop, length-append, length-replicate, get_or-replicate, get_or-append}
+use lib.Seq.{length-take-le, get_or-take, get_or-drop, get_or-append-add}
+use borrow.Rule.Slice.PartMut.{put_mid, post_of}
 use Rattle.steps.specs.Into.{wiped}
 use Rattle.move_tables.specs.Moves.{narrow_width}
 use Rattle.move_tables.specs.Walk.{Carries, Carried, Copies, Copied}
@@ -40,34 +41,22 @@ module _ (i : ℕ) (t : List ℕ) (h : i ≤ length t) where
 
 -- ---- the numbers of a record
 
--- so many of them are copied
-pub record Carrying (t : List ℕ) (from to j : ℕ) (out₀ out : List ℕ) : Type 0 where
-  pub long : length out ≡ length out₀
-  pub before : (k : ℕ) → k < to → get_or out k 0 ≡ get_or out₀ k 0
-  pub each : (i : ℕ) → i < j → get_or out (to + i) 0 ≡ get_or t (from + i) 0
-
-module _ {t : List ℕ} {from to : ℕ} where
-  pub carry_start : (out : List ℕ) → Carrying t from to 0 out out
-  carry_start out = record { long = refl; before = λ k h. refl; each = λ i h. absurd (omega arith) }
-
-  pub carry_on : {j : ℕ} {out₀ out : List ℕ} → to + j < length out → Carrying t from to j out₀ out → Carrying t from to (j + 1) out₀ (set out (to + j) (get_or t (from + j) 0))
-  carry_on {j} {out₀} {out} h s = record {
-    long = simp length-set s.long;
-    before = λ k g. get_or-set_other out (to + j) k (get_or t (from + j) 0) 0 (λ q. omega (arith, q)) ∙ s.before k g;
-    each = λ i g. by i (ltb i j) refl g;
-  }
-    where
-      by : (i : ℕ) (b : Bool) → ltb i j ≡ b → i < j + 1 → get_or (set out (to + j) (get_or t (from + j) 0)) (to + i) 0 ≡ get_or t (from + i) 0
-      by i true l g =
-          let m = ltb-true i j l in
-          get_or-set_other out (to + j) (to + i) (get_or t (from + j) 0) 0 (λ q. omega (arith, q)) ∙ s.each i m
-      by i false l g =
-          let m = ltb-false i j l in
-          let q : j ≡ i = omega arith in
-          rw (sym q) (get_or-set_same out (to + j) (get_or t (from + j) 0) 0 h)
-
-  pub carry_done : {j : ℕ} {out₀ out : List ℕ} → narrow_width ≤ j → Carrying t from to j out₀ out → Carried t from to out₀ out
-  carry_done h s = record { long = s.long; before = s.before; each = λ i g. s.each i (omega arith) }
+-- a slice written over a part of the output: k and l are 9
+pub carried : {t out : List ℕ} {from to : ℕ} (k l : ℕ) (ys : List ℕ) → Carries t from out to → k ≡ narrow_width → l ≡ narrow_width → ys ≡ take l (drop from t) →
+    length (put_mid to k out ys) ≡ length out → Carried t from to out (put_mid to k out ys)
+carried {t} {out} {from} {to} k l ys c d e f g =
+    let there = c.there in
+    let room = c.room in
+    let wide : length (take to out) ≡ to = length-take-le to out (omega arith) in
+    let rest = length-drop from t in
+    let part : length ys ≡ narrow_width = ap length f ∙ length-take-le l (drop from t) (omega arith) ∙ e in
+    record {
+      long = g;
+      before = λ i h. get_or-append (take to out) (ys ++ post_of to k out) 0 i (omega arith) ∙ get_or-take to out i 0 h;
+      each = λ j h.
+          ap (λ (m : ℕ). get_or (put_mid to k out ys) (m + j) 0) (sym wide) ∙ get_or-append-add (take to out) (ys ++ post_of to k out) j 0
+          ∙ get_or-append ys (post_of to k out) 0 j (omega arith) ∙ ap (λ (zs : List ℕ). get_or zs j 0) f ∙ get_or-take l (drop from t) j 0 (omega arith) ∙ get_or-drop from t j 0;
+    }
 
 -- ---- record after record
 
@@ -78,50 +67,33 @@ before_next v i n j h g k =
     let e : suc i * v ≡ i * v + v = omega arith in
     omega arith
 
-pub record Copying (t : List ℕ) (w v n from to : ℕ) (out₀ out : List ℕ) : Type 0 where
-  pub there : from ≡ n * w
-  pub here : to ≡ n * v
-  pub done : Copied t w v n out₀ out
-
 module _ {t : List ℕ} {w v : ℕ} where
-  pub copy_start : (out : List ℕ) → Copying t w v 0 0 0 out out
-  copy_start out = record { there = omega arith; here = omega arith; done = record { long = refl; each = λ i j h. absurd (omega arith) } }
+  pub copy_start : (out : List ℕ) → Copied t w v 0 out out
+  copy_start out = record { long = refl; each = λ i j h. absurd (omega arith) }
 
-  module _ {n from to count : ℕ} {out₀ out : List ℕ} (c : Copies t w out₀ v count) (h : n < count) (s : Copying t w v n from to out₀ out) where
-    pub copy_there : from + w ≤ length t
-    copy_there =
+  module _ {n count : ℕ} {out₀ out : List ℕ} (c : Copies t w out₀ v count) (h : n < count) (s : Copied t w v n out₀ out) where
+    pub copy_carries : Carries t (n * w) out (n * v)
+    copy_carries =
         let m : suc n * w ≤ count * w = mul-le-mul_right w h in
         let e : suc n * w ≡ n * w + w = omega arith in
-        omega (arith, m, e, s.there, c.there)
+        let m' : suc n * v ≤ count * v = mul-le-mul_right v h in
+        let e' : suc n * v ≡ n * v + v = omega arith in
+        record { there = omega (arith, m, e, c.there, c.wide); room = omega (arith, m', e', c.room, s.long, c.wide') }
 
-    pub copy_here : to + v ≤ length out
-    copy_here =
-        let m : suc n * v ≤ count * v = mul-le-mul_right v h in
-        let e : suc n * v ≡ n * v + v = omega arith in
-        omega (arith, m, e, s.here, c.room, s.done.long)
-
-    pub copy_carries : Carries t from out to
-    copy_carries = record { there = omega (arith, copy_there, c.wide); room = omega (arith, copy_here, c.wide') }
-
-    pub copy_on : {out' : List ℕ} → Carried t from to out out' → Copying t w v (n + 1) (from + w) (to + v) out₀ out'
-    copy_on {out'} d = record {
-      there = omega (arith, s.there);
-      here = omega (arith, s.here);
-      done = record { long = d.long ∙ s.done.long; each = λ i j g k. by i j (ltb i n) refl g k };
-    }
+    pub copy_on : {out' : List ℕ} → Carried t (n * w) (n * v) out out' → Copied t w v (n + 1) out₀ out'
+    copy_on {out'} d = record { long = d.long ∙ s.long; each = λ i j g k. by i j (ltb i n) refl g k }
       where
         by : (i j : ℕ) (b : Bool) → ltb i n ≡ b → i < n + 1 → j < narrow_width → get_or out' (i * v + j) 0 ≡ get_or t (i * w + j) 0
         by i j true l g k =
             let m = ltb-true i n l in
-            let b : i * v + j < n * v = before_next v i n j c.wide' m k in
-            d.before (i * v + j) (omega (arith, b, s.here)) ∙ s.done.each i j m k
+            d.before (i * v + j) (before_next v i n j c.wide' m k) ∙ s.each i j m k
         by i j false l g k =
             let m = ltb-false i n l in
             let q : n ≡ i = omega arith in
-            rw (sym q, sym s.here, sym s.there) (d.each j k)
+            rw (sym q) (d.each j k)
 
-  pub copy_done : {n from to count : ℕ} {out₀ out : List ℕ} → count ≤ n → Copying t w v n from to out₀ out → Copied t w v count out₀ out
-  copy_done h s = let d = s.done in record { long = d.long; each = λ i j g k. d.each i j (omega arith) k }
+  pub copy_done : {n count : ℕ} {out₀ out : List ℕ} → count ≤ n → Copied t w v n out₀ out → Copied t w v count out₀ out
+  copy_done h s = record { long = s.long; each = λ i j g k. s.each i j (omega arith) k }
 
 -- ---- the output
 

@@ -2,7 +2,7 @@
 --     ending_start, ending_on, ending_done          from ancestor to ancestor, up to p
 --     walk_start, walk_passes, walk_on, walk_end    from record to record
 use mathlib.Core.Path.{◌≡◌, refl, sym, ap, ◌∙◌}
-use mathlib.Core.Option.{Option, some, none}
+use Rattle.std.specs.Prelude.{Option, Some, None}
 use mathlib.Core.Bool.{Bool, true, false, cond, ◌||◌}
 use mathlib.Core.List.{List, [], ◌∷◌}
 use Prim.Native.Nat.{ℕ, suc, ◌+◌, ◌*◌, ◌-◌, ◌≤◌, ◌<◌}
@@ -92,10 +92,10 @@ pub record Walked {S : Type 0} (w : ℕ) (t : List ℕ) (f : ℕ → ℕ → S �
   pub within : n ≤ count
   pub ancestors : List ℕ
   pub is : Up w t n at ancestors
-  pub good : bad_parent n ancestors (parents_from w t (count - n) n) ≡ none
+  pub good : bad_parent n ancestors (parents_from w t (count - n) n) ≡ None
   pub same : walk f n ancestors (parents_from w t (count - n) n) s ≡ all
 
-some_none : {n : ℕ} → some n ≡ none → ⊥
+some_none : {n : ℕ} → Some n ≡ None → ⊥
 some_none e = let z : ◌≡◌ {A = ℕ} 0 1 = cc in omega arith
 
 module _ {S : Type 0} {w : ℕ} {t : List ℕ} {f : ℕ → ℕ → S → S} where
@@ -109,14 +109,14 @@ module _ {S : Type 0} {w : ℕ} {t : List ℕ} {f : ℕ → ℕ → S → S} whe
     unfolding parents_from
     one = let e : count - n ≡ suc (count - suc n) = omega arith in rw e
 
-    good_one : bad_parent n k.ancestors (parent_in w t n ∷ parents_from w t (count - suc n) (suc n)) ≡ none
+    good_one : bad_parent n k.ancestors (parent_in w t n ∷ parents_from w t (count - suc n) (suc n)) ≡ None
     good_one = ap (bad_parent n k.ancestors) (sym one) ∙ k.good
 
     has : among (parent_in w t n) k.ancestors ≡ true
     unfolding bad_parent
     has = by (bad_parent (suc n) (n ∷ from (parent_in w t n) k.ancestors) (parents_from w t (count - suc n) (suc n))) (among (parent_in w t n) k.ancestors) good_one
       where
-        by : (o : Option ℕ) (b : Bool) → cond b o (some n) ≡ none → b ≡ true
+        by : (o : Option ℕ) (b : Bool) → cond b o (Some n) ≡ None → b ≡ true
         by o true e = refl
         by o false e = absurd (some_none e)
 
@@ -126,7 +126,7 @@ module _ {S : Type 0} {w : ℕ} {t : List ℕ} {f : ℕ → ℕ → S → S} whe
     pub walk_on : (s' : S) → s' ≡ ends (f n) (parent_in w t n) k.ancestors s → Walked w t f count (n + 1) n s' all
     unfolding bad_parent walk
     walk_on s' e =
-        let g : bad_parent (suc n) (n ∷ from (parent_in w t n) k.ancestors) (parents_from w t (count - suc n) (suc n)) ≡ none = rw has at good_one in
+        let g : bad_parent (suc n) (n ∷ from (parent_in w t n) k.ancestors) (parents_from w t (count - suc n) (suc n)) ≡ None = rw has at good_one in
         let d : walk f n k.ancestors (parent_in w t n ∷ parents_from w t (count - suc n) (suc n)) s ≡ all = ap (λ (ps : List ℕ). walk f n k.ancestors ps s) (sym one) ∙ k.same in
         let i : n < suc n = omega arith in
         let j : n + 1 ≡ suc n = omega arith in

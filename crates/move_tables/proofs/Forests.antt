@@ -5,7 +5,7 @@ use mathlib.Core.Path.{◌≡◌, refl, ap, ◌∙◌}
 use mathlib.Core.Bool.{Bool, true, false, ◌&&◌}
 use mathlib.Core.List.{List, [], ◌∷◌, ◌++◌, append_assoc, append-nil}
 use mathlib.Core.Logic.{◌⊎◌, ⊎_elim, inl, inr}
-use mathlib.Core.Option.{none}
+use Rattle.std.specs.Prelude.{None}
 use Prim.Native.Nat.{ℕ, suc, ◌+◌, ◌≤◌, ◌<◌}
 use native.Mathlib.Omega.{arith}
 use borrow.Author.Tests.{eq-eqb, ne_eqb, le-leb, lt-leb, lt-ltb, le-ltb}
@@ -54,7 +54,7 @@ above_from {p} b here = rw (eq-eqb p p refl)
 above_from {p} {m} b (more {a} h g l) = rw (ne_eqb a p (apart p m a b h g)) (above_from b l)
 
 abbrev Goes : ℕ → ℕ → ℕ → List ℕ → List ℕ → Type 0
-Goes m p n rest qs = (ancestors : List ℕ) → Above m (p ∷ rest) ancestors → bad_parent n ancestors qs ≡ none
+Goes m p n rest qs = (ancestors : List ℕ) → Above m (p ∷ rest) ancestors → bad_parent n ancestors qs ≡ None
 
 mutual
   unfolding rows size bad_parent parents row node_row
@@ -148,13 +148,13 @@ module _ (ts : Forest) (few : sizes ts ≤ most_records) where
   unfolding no_parent
   fits = omega (arith, few)
 
-  parents_good : first_bad_parent (rows_of ts no_parent 0) ≡ none
+  parents_good : first_bad_parent (rows_of ts no_parent 0) ≡ None
   unfolding first_bad_parent bad_parent
   parents_good =
       rw append-nil at
       (forest_good ts no_parent 0 0 [] [] (inr refl) (omega arith) fits (λ ancestors at. refl) (no_parent ∷ []) here)
 
-  tenths_good : bad_tenth 0 (rows_of ts no_parent 0) ≡ none
+  tenths_good : bad_tenth 0 (rows_of ts no_parent 0) ≡ None
   unfolding bad_tenth past parents
   tenths_good = rw append-nil at (forest_tenths ts no_parent 0 [] (inr refl) fits (λ a m h. refl))
 

@@ -1,17 +1,17 @@
 -- What the code's steps make, said of a table's records.
 --     parents_are    the parents by number are those of the records
---     tenth_is       the walk over `lower_bad` finds the first bad tenth number
+--     tenth_found, tenth_missing    the walk over `lower_bad` finds the first bad tenth number, or none
 --     narrow_is      the copy of a table of ten numbers is its records narrowed
 --     widen_is       the copy of a table of nine, with the tenth numbers that the walk writes, is its records widened
 use mathlib.Core.Path.{◌≡◌, refl, sym, ap, ◌∙◌}
-use mathlib.Core.Option.{some}
+use Rattle.std.specs.Prelude.{Option, Some, None}
 use mathlib.Core.Bool.{Bool, true, false, cond}
 use mathlib.Core.List.{List, [], ◌∷◌, ◌++◌}
 use mathlib.Core.Logic.{◌⊎◌, ⊎_elim, inl, inr}
 use Prim.Native.Nat.{ℕ, zero, suc, ◌+◌, ◌*◌, ◌-◌, ◌/◌, ◌%◌, ◌≤◌, ◌<◌}
 use native.Mathlib.Omega.{arith}
 use native.Mathlib.Nat.{div-lt_iff_lt-mul, mod-lt, div-add-mod'}
-use borrow.Author.Tests.{eqb-true, eqb-false, ltb-true, ltb-false}
+use borrow.Author.Tests.{eq-eqb, ne_eqb, eqb-true, eqb-false, ltb-true, ltb-false}
 use lib.Dec.{eqb, ltb}
 use lib.ListN.{length, take, drop, get_or, replicate, length-append, length-replicate, get_or-replicate, length-set, length-drop, get_or-append}
 use lib.Seq.{get_or-take, get_or-drop, drop-drop, get_or-append-add, ext_get_or, get_or_at, get_or-set_same, get_or-set_other, length-take-le}
@@ -20,7 +20,7 @@ use Rattle.ast.specs.Column.{Parent, Past}
 use Rattle.ast.specs.Records.{comment_width, node_width, no_parent, room, chunks, concat, filled}
 use Rattle.ast.proofs.Counts.{Wide, concat_width}
 use Rattle.move_tables.specs.Moves.{narrow_width, most_records, records, parents, past, bad_tenth, narrowed, widened}
-use Rattle.move_tables.specs.Walk.{parent_in, parents_from, number, lower_bad, writes, walk, Good}
+use Rattle.move_tables.specs.Walk.{parent_in, parents_from, lower_bad, writes, walk, Good}
 use Rattle.move_tables.proofs.Lists.{chunks_count}
 use Rattle.move_tables.proofs.Back.{narrowed_count, widened_count}
 use Rattle.move_tables.proofs.Copying.{Placed}
@@ -59,15 +59,19 @@ module _ (t : List ℕ) (count : ℕ) (few : count ≤ most_records) where
   First n r = (r ≡ no_parent) ⊎ ((n ≤ r) × (r < count) × (Fine r → ⊥))
 
   test : (k n : ℕ) → n + suc k ≡ count →
-      bad_tenth n (chunks node_width (suc k) (drop (n * node_width) t)) ≡ cond (eqb (tenth t n) (past_of node_width t count n)) (bad_tenth (suc n) (chunks node_width k (drop (suc n * node_width) t))) (some n)
+      bad_tenth n (chunks node_width (suc k) (drop (n * node_width) t)) ≡ cond (eqb (tenth t n) (past_of node_width t count n)) (bad_tenth (suc n) (chunks node_width k (drop (suc n * node_width) t))) (Some n)
   unfolding bad_tenth chunks past_of node_width
   test k n e =
       let y : count - suc n ≡ k = omega arith in
       rw (get_or-take node_width (drop (n * node_width) t) Past 0 (omega arith), get_or-drop (n * node_width) t Past 0, behind node_width n t, chunk_parents node_width t k (suc n) (omega arith), y)
 
-  first_tenth : (k n r : ℕ) → n + k ≡ count → ((a : ℕ) → n ≤ a → a < count → a < r → Fine a) → First n r → number (bad_tenth n (chunks node_width k (drop (n * node_width) t))) ≡ r
-  unfolding number bad_tenth chunks
-  first_tenth zero n r e g f = ⊎_elim (λ q. sym q) (λ q. absurd (omega (arith, q.0, q.1))) f
+  -- a record's number, or none
+  unfoldable seen : ℕ → Option ℕ
+  seen r = cond (eqb r no_parent) None (Some r)
+
+  first_tenth : (k n r : ℕ) → n + k ≡ count → ((a : ℕ) → n ≤ a → a < count → a < r → Fine a) → First n r → bad_tenth n (chunks node_width k (drop (n * node_width) t)) ≡ seen r
+  unfolding seen bad_tenth chunks no_parent
+  first_tenth zero n r e g f = ⊎_elim (λ q. rw (eq-eqb r no_parent q)) (λ q. absurd (omega (arith, q.0, q.1))) f
   first_tenth (suc k) n r e g f =
       rw (test k n e) (by (eqb (tenth t n) (past_of node_width t count n)) refl (first_tenth k (suc n) r (omega (arith, e)) (λ a h. g a (omega (arith, h)))))
     where
@@ -90,10 +94,10 @@ module _ (t : List ℕ) (count : ℕ) (few : count ≤ most_records) where
           after true l i d = omega (arith, ltb-true n r l)
           after false l i d = let q : n ≡ r = omega (arith, ltb-false n r l) in absurd (d (rw q at h))
 
-      by : (x : Bool) → eqb (tenth t n) (past_of node_width t count n) ≡ x → (First (suc n) r → number (bad_tenth (suc n) (chunks node_width k (drop (suc n * node_width) t))) ≡ r) →
-          number (cond x (bad_tenth (suc n) (chunks node_width k (drop (suc n * node_width) t))) (some n)) ≡ r
+      by : (x : Bool) → eqb (tenth t n) (past_of node_width t count n) ≡ x → (First (suc n) r → bad_tenth (suc n) (chunks node_width k (drop (suc n * node_width) t)) ≡ seen r) →
+          cond x (bad_tenth (suc n) (chunks node_width k (drop (suc n * node_width) t))) (Some n) ≡ seen r
       by true h q = q (onward (eqb-true _ _ h))
-      by false h q = none_yet (eqb-false _ _ h)
+      by false h q = rw (sym (none_yet (eqb-false _ _ h)), ne_eqb n no_parent (λ d. omega (arith, d, e, few)))
 
   -- ---- the walk over `lower_bad`
 
@@ -112,7 +116,7 @@ module _ (t : List ℕ) (count : ℕ) (few : count ≤ most_records) where
       by false e true d = y (eqb-false _ _ e) (ltb-true _ _ d)
       by false e false d = z (ltb-false _ _ d)
 
-  pub tenth_is : Good node_width t count → walk (lower_bad t) 0 (no_parent ∷ []) (parents_from node_width t count 0) no_parent ≡ number (bad_tenth 0 (chunks node_width count t))
+  tenth_is : Good node_width t count → bad_tenth 0 (chunks node_width count t) ≡ seen (walk (lower_bad t) 0 (no_parent ∷ []) (parents_from node_width t count 0) no_parent)
   unfolding node_width
   tenth_is g =
       let o = walked node_width t count few (lower_bad t) Done Sound
@@ -120,7 +124,16 @@ module _ (t : List ℕ) (count : ℕ) (few : count ≤ most_records) where
       (λ a s h k. judged (λ b. Done a b) a s (λ e l. e) (λ d l i. absurd (omega arith)) (λ l i. absurd (omega arith)))
       (λ a b s h i k d. judged (λ c. Done b c) a s (λ e. d) (λ e l j. d (omega arith)) (λ l. d))
       no_parent g (inl refl) in
-      sym (first_tenth count 0 _ (omega arith) (λ a h l i. o.all a l i) (⊎_elim (λ q. inl q) (λ q. inr (omega arith, q.0, q.1)) o.fine))
+      first_tenth count 0 _ (omega arith) (λ a h l i. o.all a l i) (⊎_elim (λ q. inl q) (λ q. inr (omega arith, q.0, q.1)) o.fine)
+
+  module _ (g : Good node_width t count) {r : ℕ} (e : r ≡ walk (lower_bad t) 0 (no_parent ∷ []) (parents_from node_width t count 0) no_parent) where
+    pub tenth_missing : r ≡ no_parent → None ≡ bad_tenth 0 (chunks node_width count t)
+    unfolding seen
+    tenth_missing d = sym (tenth_is g ∙ ap seen (sym e) ∙ rw (eq-eqb r no_parent d))
+
+    pub tenth_found : (r ≡ no_parent → ⊥) → Some r ≡ bad_tenth 0 (chunks node_width count t)
+    unfolding seen
+    tenth_found d = sym (tenth_is g ∙ ap seen (sym e) ∙ rw (ne_eqb r no_parent d))
 
 -- ---- the output
 

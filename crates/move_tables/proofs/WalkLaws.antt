@@ -1,7 +1,7 @@
 -- What `walk` makes: each record ends once, before the record that is just past its last descendant.
 --     walked    for any state: what is done of a record there is done of each in the end
 use mathlib.Core.Path.{◌≡◌, refl, sym, ap, ◌∙◌}
-use mathlib.Core.Option.{Option, some, none}
+use Rattle.std.specs.Prelude.{Option, Some, None}
 use mathlib.Core.Bool.{Bool, true, false, cond, ◌||◌}
 use mathlib.Core.List.{List, [], ◌∷◌}
 use mathlib.Core.Logic.{◌⊎◌, ⊎_elim, inl, inr}
@@ -127,7 +127,7 @@ module _ (w : ℕ) (t : List ℕ) (count : ℕ) (few : count ≤ most_records) w
     none_left {n} {b} h g (top e) = rw (ne_eqb 4294967295 b (λ q. omega (arith, q, h, g)))
     none_left h g (up k u) = absurd (omega (arith, k, h))
 
-    has_parent : (o : Option ℕ) (n : ℕ) (b : Bool) → cond b o (some n) ≡ none → b ≡ true
+    has_parent : (o : Option ℕ) (n : ℕ) (b : Bool) → cond b o (Some n) ≡ None → b ≡ true
     has_parent o n true e = refl
     has_parent o n false e = let z : ◌≡◌ {A = ℕ} 0 1 = cc in absurd (omega arith)
 
@@ -147,7 +147,7 @@ module _ (w : ℕ) (t : List ℕ) (count : ℕ) (few : count ≤ most_records) w
         by b g true q j = let z : ◌≡◌ {A = ℕ} 0 1 = cc in absurd (omega arith)
         by b g false q j = h.all b (lt_of b n g (λ e. eqb-false n b q (sym e))) j
 
-    walk_had : (k n at : ℕ) (ancestors : List ℕ) (s : S) → n + k ≡ count → Up w t n at ancestors → bad_parent n ancestors (parents_from w t k n) ≡ none → All (Open n) ancestors → Had n ancestors s → Over (walk f n ancestors (parents_from w t k n) s)
+    walk_had : (k n at : ℕ) (ancestors : List ℕ) (s : S) → n + k ≡ count → Up w t n at ancestors → bad_parent n ancestors (parents_from w t k n) ≡ None → All (Open n) ancestors → Had n ancestors s → Over (walk f n ancestors (parents_from w t k n) s)
     unfolding walk parents_from bad_parent past
     walk_had zero n at ancestors s e is good os k =
         let z : count - n ≡ 0 = omega arith in
@@ -158,7 +158,7 @@ module _ (w : ℕ) (t : List ℕ) (count : ℕ) (few : count ≤ most_records) w
         let z : count - n ≡ suc k = omega arith in
         let y : count - suc n ≡ k = omega arith in
         let has : among p ancestors ≡ true = has_parent (bad_parent (suc n) (n ∷ from p ancestors) (parents_from w t k (suc n))) n (among p ancestors) good in
-        let good' : bad_parent (suc n) (n ∷ from p ancestors) (parents_from w t k (suc n)) ≡ none = rw has at good in
+        let good' : bad_parent (suc n) (n ∷ from p ancestors) (parents_from w t k (suc n)) ≡ None = rw has at good in
         let i : n < suc n = omega arith in
         let above : Up w t n p (from p ancestors) = up_from p has is in
         let ps : parents_from w t (count - n) n ≡ p ∷ parents_from w t k (suc n) = rw z in

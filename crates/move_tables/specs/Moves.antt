@@ -1,12 +1,13 @@
 -- Stored tables moved from nine numbers a record to ten and back (document 02, Change 7), for any table and any output.
 use Rattle.std.specs.Prelude.{Bool, false, cond, ◌&&◌, ◌||◌, List, [], ◌∷◌, ◌++◌, ℕ, suc, ◌*◌, eqb, ltb, leb, length, take, get_or}
-use Rattle.std.proofs.Math.Option.{Option, some, none}
+use Rattle.std.specs.Prelude.{Option, Some, None}
 use Rattle.lexer.specs.Error.{NodesFull, NotMovable}
 use Rattle.lexer.specs.Outcome.{Outcome, accepted, refused}
 use Rattle.ast.specs.Column.{Parent, Past}
 use Rattle.ast.specs.Records.{comment_width, node_width, no_parent, room, chunks, concat, filled, cleared}
-use Rattle.move_tables.specs.declared.Moved.{Moved}
-use Rattle.move_tables.specs.declared.Moved.TheVariants.{Accepted, Refused}
+use Rattle.std.specs.declared.result.Result.{Result}
+use Rattle.lexer.specs.declared.error.Refusal.{Refusal}
+use Rattle.lexer.specs.Refusal.{said_by}
 
 -- a node record without its tenth number is as wide as a comment record
 abbrev pub narrow_width : ℕ
@@ -41,8 +42,8 @@ from p (a ∷ ancestors) = cond (eqb a p) (a ∷ ancestors) (from p ancestors)
 
 -- the first record with a bad parent: the parents are those of record n and of all behind it
 unfoldable pub bad_parent : ℕ → List ℕ → List ℕ → Option ℕ
-bad_parent n ancestors [] = none
-bad_parent n ancestors (p ∷ ps) = cond (among p ancestors) (bad_parent (suc n) (n ∷ from p ancestors) ps) (some n)
+bad_parent n ancestors [] = None
+bad_parent n ancestors (p ∷ ps) = cond (among p ancestors) (bad_parent (suc n) (n ∷ from p ancestors) ps) (Some n)
 
 unfoldable pub first_bad_parent : List (List ℕ) → Option ℕ
 first_bad_parent rs = bad_parent 0 (no_parent ∷ []) (parents rs)
@@ -60,8 +61,8 @@ past n m (p ∷ ps) = cond (inside n p) (past n (suc m) ps) m
 
 -- the first record with a tenth number that disagrees
 unfoldable pub bad_tenth : ℕ → List (List ℕ) → Option ℕ
-bad_tenth n [] = none
-bad_tenth n (r ∷ rs) = cond (eqb (get_or r Past 0) (past n (suc n) (parents rs))) (bad_tenth (suc n) rs) (some n)
+bad_tenth n [] = None
+bad_tenth n (r ∷ rs) = cond (eqb (get_or r Past 0) (past n (suc n) (parents rs))) (bad_tenth (suc n) rs) (Some n)
 
 -- ---- 'stored tables must move to ten numbers and back'
 
@@ -76,8 +77,8 @@ narrowed (r ∷ rs) = take narrow_width r ∷ narrowed rs
 -- ---- '33: place the number of the first record with a bad parent, else a bad tenth; a bad length comes first, with 0'
 
 unfoldable pub unless : Option ℕ → Outcome (List (List ℕ)) → Outcome (List (List ℕ))
-unless none o = o
-unless (some n) o = refused NotMovable n 0
+unless None o = o
+unless (Some n) o = refused NotMovable n 0
 
 unfoldable pub widening : List ℕ → Outcome (List (List ℕ))
 widening table =
@@ -114,10 +115,12 @@ widens table out = into (widening table) out
 unfoldable pub narrows : List ℕ → List ℕ → Moving
 narrows table out = into (narrowing table) out
 
--- what each case of the code's answer says
-unfoldable pub said : Moved → Outcome (List ℕ)
-said (Accepted n) = accepted (n ∷ [])
-said (Refused e p) = refused e p 0
+-- what the code's answer says
+abbrev pub Moved : Type 0
+Moved = Result ℕ Refusal
+
+abbrev pub said : Moved → Outcome (List ℕ)
+said = said_by (λ n. n ∷ [])
 
 -- the code's answer and the output, as a move
 abbrev pub told : Moved → List ℕ → Moving

@@ -1,7 +1,7 @@
 -- How the code goes through a table: parents by number, a record's ancestors by their parents, and which records end where. The contracts within
 -- this crate cite it; those of `widen` and `narrow` do not.
 use Rattle.std.specs.Prelude.{◌≡◌, true, cond, List, [], ◌∷◌, ℕ, zero, suc, ◌+◌, ◌*◌, ◌<◌, ◌≤◌, eqb, ltb, length, get_or, set}
-use Rattle.std.proofs.Math.Option.{Option, some, none}
+use Rattle.std.specs.Prelude.{None}
 use Rattle.ast.specs.Column.{Parent, Past}
 use Rattle.ast.specs.Records.{node_width, no_parent}
 use Rattle.move_tables.specs.Moves.{narrow_width, most_records, among, from, bad_parent}
@@ -44,12 +44,7 @@ pub record Passes (w : ℕ) (t : List ℕ) (m at p : ℕ) : Type 0 where
 -- each parent of so many records is good
 pub record Good (w : ℕ) (t : List ℕ) (count : ℕ) : Type 0 where
   pub holds : Holds w t count
-  pub good : bad_parent 0 (no_parent ∷ []) (parents_from w t count 0) ≡ none
-
--- a record's number, or 4294967295
-unfoldable pub number : Option ℕ → ℕ
-number none = no_parent
-number (some n) = n
+  pub good : bad_parent 0 (no_parent ∷ []) (parents_from w t count 0) ≡ None
 
 -- ---- where records end
 

@@ -4,12 +4,13 @@
 
 ghost use Rattle.std.specs.Prelude.{◌≡◌, List, [], ◌∷◌, ℕ, suc, ◌≤◌, ◌*◌, length};
 ghost use Rattle.lexer.specs.Outcome.{refused};
-ghost use Rattle.ast.specs.Records.{node_width, no_parent};
-ghost use Rattle.move_tables.specs.Moves.{narrow_width, among, bad_parent, into, told, widens, narrows};
-ghost use Rattle.move_tables.specs.Walk.{parent_in, Holds, Stands, Passes, Good, Carries, Carried, Copies, Copied, Up, parents_from, number, ends, walk, writes, lower_bad};
+ghost use Rattle.lexer.specs.Refusal.{number_of};
+ghost use Rattle.ast.specs.Records.{node_width, no_parent, chunks};
+ghost use Rattle.move_tables.specs.Moves.{narrow_width, among, bad_parent, bad_tenth, into, told, widens, narrows};
+ghost use Rattle.move_tables.specs.Walk.{parent_in, Holds, Stands, Passes, Good, Carries, Carried, Copies, Copied, Up, parents_from, ends, walk, writes, lower_bad};
 
 use ast::{NO_PARENT, NODE_WIDTH, column};
-use lexer::error;
+use lexer::error::{ErrorKind, Refusal};
 use steps::table;
 
 // The numbers of a node record without its tenth: as many as a comment's.
@@ -18,18 +19,14 @@ const NARROW_WIDTH: usize = ast::COMMENT_WIDTH;
 // The most records of a table that is moved.
 pub const MOST_RECORDS: usize = 65536;
 
-// What a move answers: how many records, or document 02's number and place.
-#[derive(Clone, Copy)]
-pub enum Moved {
-    Accepted { records: u32 },
-    Refused { number: u32, place: u32 },
-}
+// What a move answers: how many records, or a refusal at one.
+pub type Moved = Result<u32, Refusal>;
 
-fn refuse(number: u32, place: u32, out: &mut [u32]) -> Moved
-    ensures { told result out.new ≡ into (refused number place 0) out.old }
+fn refuse(kind: ErrorKind, place: u32, out: &mut [u32]) -> Moved
+    ensures { told result out.new ≡ into (refused (number_of kind) place 0) out.old }
 {
     table::clear(out, 0);
-    Moved::Refused { number, place }
+    Err(Refusal::at(kind, place))
 }
 
 // The parent of a record.
@@ -47,6 +44,7 @@ fn reaches(table: &[u32], width: usize, below: u32, at: u32, p: u32) -> bool
     ensures { (ancestors : List ℕ) → Up width table.now below at ancestors → result ≡ among p ancestors }
 {
     let mut a = at;
+    // a chain of parents that ends at p, not a range: `while` is the plain form
     while a != p {
         if a == NO_PARENT {
             return false;
@@ -56,22 +54,20 @@ fn reaches(table: &[u32], width: usize, below: u32, at: u32, p: u32) -> bool
     true
 }
 
-// The first record with a bad parent, or 4294967295.
-fn bad_parent(table: &[u32], width: usize, count: u32) -> u32
+// The first record with a bad parent.
+fn bad_parent(table: &[u32], width: usize, count: u32) -> Option<u32>
     requires { Holds width table.now count }
-    ensures { result ≡ number (bad_parent 0 (no_parent ∷ []) (parents_from width table.now count 0)) }
+    ensures { result ≡ bad_parent 0 (no_parent ∷ []) (parents_from width table.now count 0) }
 {
-    let mut n: u32 = 0;
     let mut at = NO_PARENT;
-    while n < count {
+    for n in 0..count {
         let p = parent(table, width, n);
         if !reaches(table, width, n, at, p) {
-            return n;
+            return Some(n);
         }
         at = n;
-        n += 1;
     }
-    NO_PARENT
+    None
 }
 
 // The lower one of `bad` and a, if a's tenth number is not n; else `bad`.
@@ -80,13 +76,7 @@ fn lower_bad(table: &[u32], a: u32, n: u32, bad: u32) -> u32
     ensures { result ≡ lower_bad table.now n a bad }
 {
     let at = a as usize * NODE_WIDTH + column::PAST;
-    if table[at] == n {
-        bad
-    } else if a < bad {
-        a
-    } else {
-        bad
-    }
+    if table[at] == n { bad } else { a.min(bad) }
 }
 
 // `at` and its ancestors before p have no descendant from record n on: the lowest of them whose tenth number is not n, or `bad` if that is lower.
@@ -96,6 +86,7 @@ fn check_past(table: &[u32], at: u32, p: u32, n: u32, bad: u32) -> u32
 {
     let mut a = at;
     let mut lowest = bad;
+    // a chain of parents that ends at p, not a range: `while` is the plain form
     while a != p {
         lowest = lower_bad(table, a, n, lowest);
         a = parent(table, NODE_WIDTH, a);
@@ -103,21 +94,24 @@ fn check_past(table: &[u32], at: u32, p: u32, n: u32, bad: u32) -> u32
     lowest
 }
 
-// The first record with a bad tenth number, or 4294967295.
-fn bad_tenth(table: &[u32], count: u32) -> u32
+// The first record with a bad tenth number.
+fn bad_tenth(table: &[u32], count: u32) -> Option<u32>
     requires { Good node_width table.now count }
-    ensures { result ≡ walk (lower_bad table.now) 0 (no_parent ∷ []) (parents_from node_width table.now count 0) no_parent }
+    ensures { result ≡ bad_tenth 0 (chunks node_width count table.now) }
 {
     let mut bad = NO_PARENT;
-    let mut n: u32 = 0;
     let mut at = NO_PARENT;
-    while n < count {
+    for n in 0..count {
         let p = parent(table, NODE_WIDTH, n);
         bad = check_past(table, at, p, n, bad);
         at = n;
-        n += 1;
     }
-    check_past(table, at, NO_PARENT, count, bad)
+    let lowest = check_past(table, at, NO_PARENT, count, bad);
+    if lowest == NO_PARENT {
+        None
+    } else {
+        Some(lowest)
+    }
 }
 
 // `at` and its ancestors before p have no descendant from record n on: n is their tenth number.
@@ -126,6 +120,7 @@ fn write_past(table: &[u32], out: &mut [u32], at: u32, p: u32, n: u32)
     ensures { (ancestors : List ℕ) → Up narrow_width table.now n at ancestors → out.new ≡ ends (writes n) p ancestors out.old }
 {
     let mut a = at;
+    // a chain of parents that ends at p, not a range: `while` is the plain form
     while a != p {
         let k = a as usize * NODE_WIDTH + column::PAST;
         out[k] = n;
@@ -138,13 +133,11 @@ fn write_pasts(table: &[u32], out: &mut [u32], count: u32)
     requires { (Good narrow_width table.now count) × (count * node_width ≤ length out.old) }
     ensures { out.new ≡ walk writes 0 (no_parent ∷ []) (parents_from narrow_width table.now count 0) out.old }
 {
-    let mut n: u32 = 0;
     let mut at = NO_PARENT;
-    while n < count {
+    for n in 0..count {
         let p = parent(table, NARROW_WIDTH, n);
         write_past(table, out, at, p, n);
         at = n;
-        n += 1;
     }
     write_past(table, out, at, NO_PARENT, count);
 }
@@ -154,11 +147,7 @@ fn copy_record(table: &[u32], from: usize, out: &mut [u32], to: usize)
     requires { Carries table.now from out.old to }
     ensures { Carried table.now from to out.old out.new }
 {
-    let mut j: usize = 0;
-    while j < NARROW_WIDTH {
-        out[to + j] = table[from + j];
-        j += 1;
-    }
+    out[to..to + NARROW_WIDTH].copy_from_slice(&table[from..from + NARROW_WIDTH]);
 }
 
 // The first nine numbers of each record, from records of `old` numbers to records of `new`.
@@ -166,14 +155,8 @@ fn copy(table: &[u32], old: usize, out: &mut [u32], new: usize, count: usize)
     requires { Copies table.now old out.old new count }
     ensures { Copied table.now old new count out.old out.new }
 {
-    let mut n: usize = 0;
-    let mut from: usize = 0;
-    let mut to: usize = 0;
-    while n < count {
-        copy_record(table, from, out, to);
-        from += old;
-        to += new;
-        n += 1;
+    for n in 0..count {
+        copy_record(table, n * old, out, n * new);
     }
 }
 
@@ -181,55 +164,50 @@ fn copy(table: &[u32], old: usize, out: &mut [u32], new: usize, count: usize)
 pub fn widen(table: &[u32], out: &mut [u32]) -> Moved
     ensures { told result out.new ≡ widens table.now out.old }
 {
-    let length = table.len();
-    let count = length / NARROW_WIDTH;
-    if count * NARROW_WIDTH != length {
-        return refuse(error::NOT_MOVABLE, 0, out);
+    if table.len() % NARROW_WIDTH != 0 {
+        return refuse(ErrorKind::NotMovable, 0, out);
     }
+    let count = table.len() / NARROW_WIDTH;
     if MOST_RECORDS < count {
-        return refuse(error::NOT_MOVABLE, 0, out);
+        return refuse(ErrorKind::NotMovable, 0, out);
     }
     let records = count as u32;
     let widened = count * NODE_WIDTH;
-    let bad = bad_parent(table, NARROW_WIDTH, records);
-    if bad != NO_PARENT {
-        return refuse(error::NOT_MOVABLE, bad, out);
+    if let Some(bad) = bad_parent(table, NARROW_WIDTH, records) {
+        return refuse(ErrorKind::NotMovable, bad, out);
     }
     if out.len() < widened {
-        return refuse(error::NODES_FULL, 0, out); // no room for ten numbers a record
+        return refuse(ErrorKind::NodesFull, 0, out); // no room for ten numbers a record
     }
     copy(table, NARROW_WIDTH, out, NODE_WIDTH, count);
     table::clear(out, widened);
     write_pasts(table, out, records);
-    Moved::Accepted { records }
+    Ok(records)
 }
 
 // From ten numbers a record to nine.
 pub fn narrow(table: &[u32], out: &mut [u32]) -> Moved
     ensures { told result out.new ≡ narrows table.now out.old }
 {
-    let length = table.len();
-    let count = length / NODE_WIDTH;
-    if count * NODE_WIDTH != length {
-        return refuse(error::NOT_MOVABLE, 0, out);
+    if table.len() % NODE_WIDTH != 0 {
+        return refuse(ErrorKind::NotMovable, 0, out);
     }
+    let count = table.len() / NODE_WIDTH;
     if MOST_RECORDS < count {
-        return refuse(error::NOT_MOVABLE, 0, out);
+        return refuse(ErrorKind::NotMovable, 0, out);
     }
     let records = count as u32;
     let narrowed = count * NARROW_WIDTH;
-    let bad = bad_parent(table, NODE_WIDTH, records);
-    if bad != NO_PARENT {
-        return refuse(error::NOT_MOVABLE, bad, out);
+    if let Some(bad) = bad_parent(table, NODE_WIDTH, records) {
+        return refuse(ErrorKind::NotMovable, bad, out);
     }
-    let wrong = bad_tenth(table, records);
-    if wrong != NO_PARENT {
-        return refuse(error::NOT_MOVABLE, wrong, out);
+    if let Some(wrong) = bad_tenth(table, records) {
+        return refuse(ErrorKind::NotMovable, wrong, out);
     }
     if out.len() < narrowed {
-        return refuse(error::NODES_FULL, 0, out); // no room for nine
+        return refuse(ErrorKind::NodesFull, 0, out); // no room for nine
     }
     copy(table, NODE_WIDTH, out, NARROW_WIDTH, count);
     table::clear(out, narrowed);
-    Moved::Accepted { records }
+    Ok(records)
 }

@@ -4,15 +4,11 @@
 --     integer, hex       the value of an integer token, with its sign, and of a hexadecimal one, unsigned
 --     value              the value of a token
 --     sized, fitted      a number up to a bound, and a signed one that 32 bits hold, as the code tells them
-use Rattle.std.specs.Prelude.{Bool, cond, not, ◌&&◌, List, [], ◌∷◌, ℕ, ◌+◌, ◌*◌, ◌-◌, eqb, ltb, leb, drop, ℤ, pos, neg_ℤ}
+use Rattle.std.specs.Prelude.{Bool, cond, not, ◌&&◌, List, [], ◌∷◌, ℕ, ◌+◌, ◌*◌, ◌-◌, eqb, ltb, leb, drop, ℤ, pos, neg_ℤ, Option, Some, None}
 use Rattle.std.specs.Int.Signed.{lt_z}
 use Rattle.token.specs.Code.{is}
 use Rattle.token.specs.declared.Token.TheVariants as T
 use Rattle.lexer.specs.Tokens.{Lexeme, lexeme}
-use Rattle.number.specs.declared.Size.{Size}
-use Rattle.number.specs.declared.Size.TheVariants.{UpTo, Over}
-use Rattle.number.specs.declared.Value.{Value}
-use Rattle.number.specs.declared.Value.TheVariants.{Is, Outside}
 
 -- `0` to `9`, `A` to `F`, `a` to `f`
 unfoldable pub digit : ℕ → ℕ
@@ -46,8 +42,8 @@ value (lexeme t w l) = cond (is t T.HexLiteral) (hex w) (integer w)
 unfoldable pub i32 : ℤ → Bool
 i32 z = not (lt_z z (neg_ℤ (pos 2147483648))) && not (lt_z (pos 2147483647) z)
 
-unfoldable pub sized : ℕ → ℕ → Size
-sized most n = cond (leb n most) (UpTo n) Over
+unfoldable pub sized : ℕ → ℕ → Option ℕ
+sized most n = cond (leb n most) (Some n) None
 
-unfoldable pub fitted : ℤ → Value
-fitted z = cond (i32 z) (Is z) Outside
+unfoldable pub fitted : ℤ → Option ℤ
+fitted z = cond (i32 z) (Some z) None

@@ -5,126 +5,79 @@ ghost use Rattle.std.specs.Prelude.{◌≡◌, ◌<◌, pos, neg_ℤ};
 ghost use Rattle.std.proofs.Math.IntN.{suc_ℤ};
 ghost use Rattle.number.specs.Value.{digit, digits, integer, hex, sized, fitted};
 
-// The largest signed number of 32 bits; its size, and that of the least.
-const MOST: i32 = 2147483647;
-
-const MOST_SIZE: u32 = 2147483647;
-
-const LEAST_SIZE: u32 = 2147483648;
-
-// A number up to a bound, or one past it.
-#[derive(Clone, Copy)]
-pub enum Size {
-    UpTo(u32),
-    Over,
-}
-
-// A signed number of 32 bits, or one that 32 bits do not hold.
-#[derive(Clone, Copy)]
-pub enum Value {
-    Is(i32),
-    Outside,
-}
-
 // The number of a digit, decimal or hexadecimal: `A` and `a` are 10.
+#[tactic(auto, unfolding(crate::specs::Value::digit))]
 pub fn digit(byte: u8) -> u32
     ensures { result ≡ digit byte }
 {
-    if byte < b'0' {
-        return 0;
-    }
-    if byte < b'A' {
-        return (byte - b'0') as u32;
-    }
-    if byte < b'a' {
-        return (byte - 55) as u32;
-    }
-    (byte - 87) as u32
+    let number = match byte {
+        ..b'0' => 0,
+        b'0'..b'A' => byte - b'0',
+        b'A'..b'a' => byte - b'A' + 10,
+        b'a'.. => byte - b'a' + 10,
+    };
+    u32::from(number)
 }
 
-// The number of digits at a base, up to the most.
-pub fn digits(bytes: &[u8], base: u32, most: u32) -> Size
+// The number of digits at a base, if it is at most the most.
+#[tactic(auto, using(crate::proofs::DigitLaws::turns), unfolding(crate::specs::Value::sized))]
+pub fn digits(bytes: &[u8], base: u32, most: u32) -> Option<u32>
     requires { 0 < base }
     ensures { result ≡ sized most (digits base 0 bytes.now) }
 {
-    let before = most / base; // the most before one digit more
     let mut value: u32 = 0;
-    let mut i = 0;
-    while i < bytes.len() {
-        let one = digit(bytes[i]);
-        if before < value {
-            return Size::Over;
-        }
-        let shifted = value * base;
-        if most - shifted < one {
-            return Size::Over;
-        }
-        value = shifted + one;
-        i += 1;
+    for &byte in bytes {
+        value = value.checked_mul(base)?.checked_add(digit(byte))?;
     }
-    Size::UpTo(value)
+    (value <= most).then_some(value)
 }
 
 // The number of digits at a base.
-fn positive(bytes: &[u8], base: u32) -> Value
+#[tactic(auto, using(crate::proofs::Bits::positives))]
+fn positive(bytes: &[u8], base: u32) -> Option<i32>
     requires { 0 < base }
     ensures { result ≡ fitted (pos (digits base 0 bytes.now)) }
 {
-    let found = digits(bytes, base, MOST_SIZE);
-    let Size::UpTo(size) = found else {
-        return Value::Outside;
-    };
-    Value::Is(size as i32)
+    let size = digits(bytes, base, i32::MAX.unsigned_abs())?;
+    Some(size as i32)
 }
 
 // The number of decimal digits behind a minus.
-fn negative(bytes: &[u8]) -> Value
+#[tactic(auto, using(crate::proofs::Bits::negatives))]
+fn negative(bytes: &[u8]) -> Option<i32>
     ensures { result ≡ fitted (neg_ℤ (pos (digits 10 0 bytes.now))) }
 {
-    let found = digits(bytes, 10, LEAST_SIZE);
-    let Size::UpTo(size) = found else {
-        return Value::Outside;
-    };
-    if size == 0 {
-        return Value::Is(0);
-    }
-    let less = size - 1;
-    let down = less as i32;
-    Value::Is(-1 - down)
+    let size = digits(bytes, 10, i32::MIN.unsigned_abs())?;
+    0i32.checked_sub_unsigned(size)
 }
 
 // The value of an integer token, with its sign.
-pub fn integer(bytes: &[u8]) -> Value
+#[tactic(auto, using(crate::proofs::Bits::integers))]
+pub fn integer(bytes: &[u8]) -> Option<i32>
     ensures { result ≡ fitted (integer bytes.now) }
 {
-    if bytes.len() == 0 {
-        return Value::Is(0);
+    match bytes {
+        [b'-', size @ ..] => negative(size),
+        [b'+', size @ ..] => positive(size, 10),
+        size => positive(size, 10),
     }
-    if bytes[0] == b'-' {
-        return negative(&bytes[1..]);
-    }
-    if bytes[0] == b'+' {
-        return positive(&bytes[1..], 10);
-    }
-    positive(bytes, 10)
 }
 
 // The value of a hexadecimal token, unsigned.
-pub fn hex(bytes: &[u8]) -> Value
+#[tactic(auto, using(crate::proofs::Bits::hexes))]
+pub fn hex(bytes: &[u8]) -> Option<i32>
     ensures { result ≡ fitted (hex bytes.now) }
 {
-    if bytes.len() < 2 {
-        return Value::Is(0);
+    match bytes {
+        [_, _, size @ ..] => positive(size, 16),
+        _ => Some(0),
     }
-    positive(&bytes[2..], 16)
 }
 
 // The number behind a number.
-pub fn successor(number: i32) -> Value
+#[tactic(auto, using(crate::proofs::Bits::fitted_as))]
+pub fn successor(number: i32) -> Option<i32>
     ensures { result ≡ fitted (suc_ℤ number) }
 {
-    if number == MOST {
-        return Value::Outside;
-    }
-    Value::Is(number + 1)
+    number.checked_add(1)
 }

@@ -5,7 +5,7 @@ ghost use Rattle.parse_fields.specs.Into.{field_id_in, required_of, skip_require
 
 use crate::annotations;
 use ast::flag;
-use lexer::error;
+use lexer::error::ErrorKind;
 use parse_values::{types, values};
 use parser::NESTING;
 use steps::state::{Parent, Parsed, State};
@@ -13,25 +13,19 @@ use steps::{id, table};
 
 // parse_field_id; without an id no token is taken.
 // FieldId ::= (integer ':')?
-fn parse_field_id(
-    lut: &[u8; 768],
-    text: &[u8],
-    first: State,
-    parent: Parent,
-    rest: &mut [u32],
-) -> Parsed
-    requires { Lent lut.now text.now }
+fn parse_field_id(text: &[u8], first: State, parent: Parent, rest: &mut [u32]) -> Parsed
+    requires { Lent text.now }
     ensures { Quiet (field_id_in text.now parent.base parent.node) first result rest.old rest.new }
 {
     if first.kind != token::kind::INTEGER_LITERAL {
-        return Parsed::On(first);
+        return Ok(first);
     }
-    let state = first.advance(lut, text);
+    let state = first.advance(text);
     if !id::is_id_at(text, state.last) {
-        return first.refuse(error::INVALID_FIELD_ID);
+        return first.refuse(ErrorKind::InvalidFieldId);
     }
     let numbered = state.put_leaf(rest, ast::kind::FIELD_ID, parent);
-    numbered.expect(lut, text, token::kind::COLON, error::UNEXPECTED_TOKEN)
+    numbered.expect(text, token::kind::COLON, ErrorKind::UnexpectedToken)
 }
 
 // The flag of a requiredness; else 0.
@@ -50,14 +44,14 @@ fn required_flag(kind: u32) -> u32
 
 // Past a requiredness, if it is there.
 // Required ::= 'required' | 'optional'
-fn skip_required(lut: &[u8; 768], text: &[u8], st: State) -> State
-    requires { Lent lut.now text.now }
+fn skip_required(text: &[u8], st: State) -> State
+    requires { Lent text.now }
     ensures { result ≡ skip_required text.now st }
 {
     if required_flag(st.kind) == 0 {
         return st;
     }
-    st.advance(lut, text)
+    st.advance(text)
 }
 
 // parse_field_name: the kinds that may name a field.
@@ -95,83 +89,52 @@ fn is_early_name(kind: u32) -> bool
     kind == token::kind::STRUCT
 }
 
-fn parse_field_name(
-    lut: &[u8; 768],
-    text: &[u8],
-    st: State,
-    parent: Parent,
-    rest: &mut [u32],
-) -> Parsed
-    requires { Lent lut.now text.now }
+fn parse_field_name(text: &[u8], st: State, parent: Parent, rest: &mut [u32]) -> Parsed
+    requires { Lent text.now }
     ensures { Quiet (field_name_in text.now parent.base parent.node) st result rest.old rest.new }
 {
     if !is_field_name(st.kind) {
-        return st.refuse(error::INVALID_FIELD_NAME);
+        return st.refuse(ErrorKind::InvalidFieldName);
     }
-    let state = st.advance(lut, text);
-    Parsed::On(state.put_leaf(rest, ast::kind::NAME, parent))
+    let state = st.advance(text);
+    Ok(state.put_leaf(rest, ast::kind::NAME, parent))
 }
 
 // The default value, if there is one.
 // Default ::= '=' Value
-fn parse_default(
-    lut: &[u8; 768],
-    text: &[u8],
-    st: State,
-    parent: Parent,
-    rest: &mut [u32],
-) -> Parsed
-    requires { Lent lut.now text.now }
+fn parse_default(text: &[u8], st: State, parent: Parent, rest: &mut [u32]) -> Parsed
+    requires { Lent text.now }
     ensures { Quiet (default_in text.now parent.base parent.node) st result rest.old rest.new }
 {
     if st.kind != token::kind::EQUALS {
-        return Parsed::On(st);
+        return Ok(st);
     }
-    let state = st.advance(lut, text);
-    values::parse_value(lut, text, state, NESTING, parent, rest)
+    let state = st.advance(text);
+    values::parse_value(text, state, NESTING, parent, rest)
 }
 
 // The type and the name of a field, behind its id.
-fn parse_field_head(
-    lut: &[u8; 768],
-    text: &[u8],
-    st: State,
-    parent: Parent,
-    rest: &mut [u32],
-) -> Parsed
-    requires { Lent lut.now text.now }
+fn parse_field_head(text: &[u8], st: State, parent: Parent, rest: &mut [u32]) -> Parsed
+    requires { Lent text.now }
     ensures { Quiet (field_head_in text.now parent.base parent.node) st result rest.old rest.new }
 {
-    let begun = skip_required(lut, text, st);
-    let read = types::parse_type(lut, text, begun, NESTING, parent, rest);
-    let Parsed::On(typed) = read else {
-        return read;
-    };
-    parse_field_name(lut, text, typed, parent, rest)
+    let begun = skip_required(text, st);
+    let typed = types::parse_type(text, begun, NESTING, parent, rest)?;
+    parse_field_name(text, typed, parent, rest)
 }
 
 // The default value and the annotations of a field.
-fn parse_field_tail(
-    lut: &[u8; 768],
-    text: &[u8],
-    st: State,
-    parent: Parent,
-    rest: &mut [u32],
-) -> Parsed
-    requires { Lent lut.now text.now }
+fn parse_field_tail(text: &[u8], st: State, parent: Parent, rest: &mut [u32]) -> Parsed
+    requires { Lent text.now }
     ensures { Quiet (field_tail_in text.now parent.base parent.node) st result rest.old rest.new }
 {
-    let read = parse_default(lut, text, st, parent, rest);
-    let Parsed::On(state) = read else {
-        return read;
-    };
-    annotations::parse_annotations(lut, text, state, parent, rest)
+    let state = parse_default(text, st, parent, rest)?;
+    annotations::parse_annotations(text, state, parent, rest)
 }
 
 // parse_field; `flag` is THROWN for a thrown field, else 0.
 // Field ::= FieldId Required? Type FieldName Default? Annotations?
 fn parse_field(
-    lut: &[u8; 768],
     text: &[u8],
     st: State,
     flag: u32,
@@ -179,7 +142,7 @@ fn parse_field(
     rest: &mut [u32],
     comments: &mut [u32],
 ) -> Parsed
-    requires { Lent lut.now text.now }
+    requires { Lent text.now }
     ensures { Reads (field_in text.now flag parent.base parent.node) st result rest.old rest.new comments.old comments.new }
 {
     let under = Parent {
@@ -187,26 +150,17 @@ fn parse_field(
         node: st.next,
     };
     let first = st.open().own(st.next, comments);
-    let id = parse_field_id(lut, text, first, under, rest);
-    let Parsed::On(numbered) = id else {
-        return id;
-    };
-    let head = parse_field_head(lut, text, numbered, under, rest);
-    let Parsed::On(named) = head else {
-        return head;
-    };
-    let tail = parse_field_tail(lut, text, named, under, rest);
-    let Parsed::On(state) = tail else {
-        return tail;
-    };
+    let numbered = parse_field_id(text, first, under, rest)?;
+    let named = parse_field_head(text, numbered, under, rest)?;
+    let state = parse_field_tail(text, named, under, rest)?;
     let start = st.start();
     let flags = table::sum(required_flag(numbered.kind), flag);
     state.put_node(rest, st.next, ast::kind::FIELD, flags, start, parent);
-    Parsed::On(state)
+    Ok(state)
 }
 
 // A list of fields: the kinds of its brackets, and the flag of each field.
-#[derive(Clone, Copy)]
+#[derive(Clone, Copy, Debug, PartialEq, Eq)]
 pub struct FieldList {
     pub opener: u32,
     pub closer: u32,
@@ -235,7 +189,6 @@ pub const THROWN: FieldList = FieldList {
 // parse_members and parse_parameters over fields.
 // Fields ::= open (Separator* Comment* Field)* Separator* Comment* close
 pub fn parse_fields(
-    lut: &[u8; 768],
     text: &[u8],
     st: State,
     list: FieldList,
@@ -243,24 +196,17 @@ pub fn parse_fields(
     rest: &mut [u32],
     comments: &mut [u32],
 ) -> Parsed
-    requires { Lent lut.now text.now }
+    requires { Lent text.now }
     ensures { Reads (fields_in text.now list.opener list.closer list.flag parent.base parent.node) st result rest.old rest.new comments.old comments.new }
 {
-    let opened = st.expect(lut, text, list.opener, error::UNEXPECTED_TOKEN);
-    let Parsed::On(inside) = opened else {
-        return opened;
-    };
+    let inside = st.expect(text, list.opener, ErrorKind::UnexpectedToken)?;
     let mut state = inside;
     loop {
-        let over = state.skip(lut, text, true);
-        let found = over.skip_comments(lut, text, false, comments);
+        let over = state.skip(text, true);
+        let found = over.skip_comments(text, false, comments);
         if found.kind == list.closer {
-            return found.take(lut, text);
+            return found.take(text);
         }
-        let read = parse_field(lut, text, found, list.flag, parent, rest, comments);
-        let Parsed::On(behind) = read else {
-            return read;
-        };
-        state = behind;
+        state = parse_field(text, found, list.flag, parent, rest, comments)?;
     }
 }

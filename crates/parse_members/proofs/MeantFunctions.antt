@@ -6,7 +6,7 @@
 use mathlib.Core.Path.{◌≡◌, refl, sym, ap, ◌∙◌}
 use mathlib.Core.Bool.{Bool, true, false, cond, ◌||◌, false≢true}
 use mathlib.Core.List.{List, [], ◌∷◌}
-use mathlib.Core.Option.{Option, some, none}
+use Rattle.std.specs.Prelude.{Option, Some, None}
 use Prim.Native.Nat.{ℕ, suc, ◌+◌, ◌≤◌}
 use native.Mathlib.Omega.{arith}
 use lib.Dec.{eqb}
@@ -91,10 +91,10 @@ member_node l c n v a = simp plus_assoc (simp perhaps_plus)
 
 flags_small : (o : Bool) (th : Option (List Field)) → oneway_flag o + throws_flag th ≤ 12
 unfolding oneway_flag throws_flag
-flags_small true none = omega arith
-flags_small true (some fs) = omega arith
-flags_small false none = omega arith
-flags_small false (some fs) = omega arith
+flags_small true None = omega arith
+flags_small true (Some fs) = omega arith
+flags_small false None = omega arith
+flags_small false (Some fs) = omega arith
 
 -- ---- a token of one of two kinds
 

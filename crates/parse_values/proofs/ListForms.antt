@@ -8,7 +8,7 @@ use Prim.Native.Nat.{ℕ, zero, suc, ◌≤◌}
 use lib.Dec.{eqb}
 use borrow.Author.Tests.{ne_eqb}
 use Rattle.steps.specs.declared.state.State.{State}
-use Rattle.steps.specs.declared.state.Parsed.TheVariants.{On}
+use Rattle.std.specs.Prelude.{Ok}
 use Rattle.steps.specs.Into.{M, Out, advanced, after, bytes_left, closes_at, done, leaf_in, passed, shows, skip_in, take_in}
 use Rattle.parse_values.specs.Into.{elements_in, leaf_value, properties_in, skip_both_in, value_by, value_in}
 use Rattle.steps.proofs.Bytes.{Falls, rested}
@@ -45,7 +45,7 @@ value_leaf text inside b p st t u h = rw (leaf_there st.kind h, ne_eqb (leaf_val
 
 module _ (text : List ℕ) (d b p : ℕ) (st x y : State) (t t' : List ℕ) (leaf : ℕ) where
   pub leaf_element : leaf ≡ leaf_value st.kind → (leaf ≡ 0 → ⊥) → x ≡ advanced text st → ((u : List ℕ) → done y t' u ≡ leaf_in leaf b p x t u)
-      → (u : List ℕ) → shows (On y) t' u ≡ value_in text d b p st t u
+      → (u : List ℕ) → shows (Ok y) t' u ≡ value_in text d b p st t u
   unfolding shows value_in
   leaf_element e n h put u = put u ∙ rw (e, h) (sym (go d))
     where

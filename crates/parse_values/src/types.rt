@@ -3,7 +3,7 @@ ghost use Rattle.std.specs.Prelude.{◌≡◌};
 ghost use Rattle.steps.specs.Into.{Lent, Quiet};
 ghost use Rattle.parse_values.specs.Into.{leaf_type, container_type, contained_in, complex_in, type_in};
 
-use lexer::error;
+use lexer::error::ErrorKind;
 use steps::state::{Parent, Parsed, State};
 
 // The record of a type that is one token, a keyword or a name; else 0.
@@ -43,39 +43,28 @@ fn container_type(kind: u32) -> u32
 // parse_field_type with `depth` containers left: the next one inside is 23 at its keyword.
 // Type ::= keyword | name | ('list' | 'set') '<' Type '>' | 'map' '<' Type ',' Type '>'
 #[cycle(types)]
-pub fn parse_type(
-    lut: &[u8; 768],
-    text: &[u8],
-    st: State,
-    depth: u32,
-    parent: Parent,
-    rest: &mut [u32],
-) -> Parsed
-    requires { Lent lut.now text.now }
+pub fn parse_type(text: &[u8], st: State, depth: u32, parent: Parent, rest: &mut [u32]) -> Parsed
+    requires { Lent text.now }
     ensures { Quiet (type_in text.now depth parent.base parent.node) st result rest.old rest.new }
 {
-    let taken = st.take(lut, text);
-    let Parsed::On(state) = taken else {
-        return taken;
-    };
+    let state = st.take(text)?;
     let leaf = leaf_type(st.kind);
     if leaf != 0 {
-        return Parsed::On(state.put_leaf(rest, leaf, parent));
+        return Ok(state.put_leaf(rest, leaf, parent));
     }
     let container = container_type(st.kind);
     if container == 0 {
-        return st.refuse(error::UNSUPPORTED_TYPE);
+        return st.refuse(ErrorKind::UnsupportedType);
     }
     if depth == 0 {
-        return st.refuse(error::TOO_DEEP);
+        return st.refuse(ErrorKind::TooDeep);
     }
-    parse_complex_type(lut, text, state, container, depth - 1, parent, rest)
+    parse_complex_type(text, state, container, depth - 1, parent, rest)
 }
 
 // parse_complex_type, parse_map_type: behind the container's keyword.
 #[cycle(types)]
 fn parse_complex_type(
-    lut: &[u8; 768],
     text: &[u8],
     st: State,
     kind: u32,
@@ -83,35 +72,27 @@ fn parse_complex_type(
     parent: Parent,
     rest: &mut [u32],
 ) -> Parsed
-    requires { Lent lut.now text.now }
+    requires { Lent text.now }
     ensures { Quiet (complex_in text.now kind (λ q. type_in text.now depth parent.base q) parent.base parent.node) st result rest.old rest.new }
 {
     let under = Parent {
         base: parent.base,
         node: st.next,
     };
-    let opened = st.open().expect(lut, text, token::kind::LEFT_ANGLE, error::UNEXPECTED_TOKEN);
-    let Parsed::On(inner) = opened else {
-        return opened;
-    };
-    let read = parse_contained(lut, text, inner, kind, depth, under, rest);
-    let Parsed::On(behind) = read else {
-        return read;
-    };
-    let closed = behind.expect(lut, text, token::kind::RIGHT_ANGLE, error::UNEXPECTED_TOKEN);
-    let Parsed::On(state) = closed else {
-        return closed;
-    };
+    let inner = st
+        .open()
+        .expect(text, token::kind::LEFT_ANGLE, ErrorKind::UnexpectedToken)?;
+    let behind = parse_contained(text, inner, kind, depth, under, rest)?;
+    let state = behind.expect(text, token::kind::RIGHT_ANGLE, ErrorKind::UnexpectedToken)?;
     let last = st.last;
     let start = last.start;
     state.put_node(rest, st.next, kind, 0, start, parent);
-    Parsed::On(state)
+    Ok(state)
 }
 
 // The contained type; of a map both, with the comma between.
 #[cycle(types)]
 fn parse_contained(
-    lut: &[u8; 768],
     text: &[u8],
     st: State,
     kind: u32,
@@ -119,19 +100,14 @@ fn parse_contained(
     parent: Parent,
     rest: &mut [u32],
 ) -> Parsed
-    requires { Lent lut.now text.now }
+    requires { Lent text.now }
     ensures { Quiet (contained_in text.now kind (type_in text.now depth parent.base parent.node)) st result rest.old rest.new }
 {
-    let first = parse_type(lut, text, st, depth, parent, rest);
+    let first = parse_type(text, st, depth, parent, rest);
     if kind != ast::kind::MAP {
         return first;
     }
-    let Parsed::On(key) = first else {
-        return first;
-    };
-    let comma = key.expect(lut, text, token::kind::COMMA, error::UNEXPECTED_TOKEN);
-    let Parsed::On(value) = comma else {
-        return comma;
-    };
-    parse_type(lut, text, value, depth, parent, rest)
+    let key = first?;
+    let value = key.expect(text, token::kind::COMMA, ErrorKind::UnexpectedToken)?;
+    parse_type(text, value, depth, parent, rest)
 }

@@ -3,7 +3,7 @@ ghost use Rattle.std.specs.Prelude.{◌≡◌};
 ghost use Rattle.steps.specs.Into.{Lent, Quiet};
 ghost use Rattle.parse_values.specs.Into.{leaf_value, elements_in, list_in, property_in, properties_in, map_in, is_opener, value_in};
 
-use lexer::error;
+use lexer::error::ErrorKind;
 use steps::state::{Parent, Parsed, State};
 
 // The record of a value that is one token; else 0.
@@ -45,49 +45,32 @@ fn is_opener(kind: u32) -> bool
 // parse_field_value with `depth` containers left: the next one inside is 23 at its bracket.
 // Value ::= string | integer | double | boolean | hex | name | List | Map
 #[cycle(values)]
-pub fn parse_value(
-    lut: &[u8; 768],
-    text: &[u8],
-    st: State,
-    depth: u32,
-    parent: Parent,
-    rest: &mut [u32],
-) -> Parsed
-    requires { Lent lut.now text.now }
+pub fn parse_value(text: &[u8], st: State, depth: u32, parent: Parent, rest: &mut [u32]) -> Parsed
+    requires { Lent text.now }
     ensures { Quiet (value_in text.now depth parent.base parent.node) st result rest.old rest.new }
 {
-    let taken = st.take(lut, text);
-    let Parsed::On(state) = taken else {
-        return taken;
-    };
+    let state = st.take(text)?;
     let leaf = leaf_value(st.kind);
     if leaf != 0 {
-        return Parsed::On(state.put_leaf(rest, leaf, parent));
+        return Ok(state.put_leaf(rest, leaf, parent));
     }
     if !is_opener(st.kind) {
-        return st.refuse(error::INVALID_VALUE_DECLARATION);
+        return st.refuse(ErrorKind::InvalidValueDeclaration);
     }
     if depth == 0 {
-        return st.refuse(error::TOO_DEEP);
+        return st.refuse(ErrorKind::TooDeep);
     }
     if st.kind == token::kind::LEFT_BRACKET {
-        return parse_list_value(lut, text, state, depth - 1, parent, rest);
+        return parse_list_value(text, state, depth - 1, parent, rest);
     }
-    parse_map_value(lut, text, state, depth - 1, parent, rest)
+    parse_map_value(text, state, depth - 1, parent, rest)
 }
 
 // parse_list_value: behind the bracket.
 // List ::= '[' (Separator* Comment* Value)* Separator* Comment* ']'
 #[cycle(values)]
-fn parse_list_value(
-    lut: &[u8; 768],
-    text: &[u8],
-    st: State,
-    depth: u32,
-    parent: Parent,
-    rest: &mut [u32],
-) -> Parsed
-    requires { Lent lut.now text.now }
+fn parse_list_value(text: &[u8], st: State, depth: u32, parent: Parent, rest: &mut [u32]) -> Parsed
+    requires { Lent text.now }
     ensures { Quiet (list_in text.now (λ q. value_in text.now depth parent.base q) parent.base parent.node) st result rest.old rest.new }
 {
     let under = Parent {
@@ -95,62 +78,41 @@ fn parse_list_value(
         node: st.next,
     };
     let opened = st.open();
-    let read = parse_elements(lut, text, opened, depth, under, rest);
-    let Parsed::On(state) = read else {
-        return read;
-    };
+    let state = parse_elements(text, opened, depth, under, rest)?;
     let last = st.last;
     let start = last.start;
     state.put_node(rest, st.next, ast::kind::LIST_VALUE, 0, start, parent);
-    Parsed::On(state)
+    Ok(state)
 }
 
 // The elements up to the closing bracket, and that. An element of one token, the usual case, is read here: no call, no state copied.
 #[cycle(values)]
-fn parse_elements(
-    lut: &[u8; 768],
-    text: &[u8],
-    st: State,
-    depth: u32,
-    parent: Parent,
-    rest: &mut [u32],
-) -> Parsed
-    requires { Lent lut.now text.now }
+fn parse_elements(text: &[u8], st: State, depth: u32, parent: Parent, rest: &mut [u32]) -> Parsed
+    requires { Lent text.now }
     ensures { Quiet (elements_in text.now (value_in text.now depth parent.base parent.node)) st result rest.old rest.new }
 {
     let mut state = st;
     loop {
-        let over = state.skip_all(lut, text, true);
-        let found = over.skip_all(lut, text, false);
+        let over = state.skip_all(text, true);
+        let found = over.skip_all(text, false);
         if found.kind == token::kind::RIGHT_BRACKET {
-            return found.take(lut, text);
+            return found.take(text);
         }
         let leaf = leaf_value(found.kind);
         if leaf != 0 {
-            let taken = found.advance(lut, text);
+            let taken = found.advance(text);
             state = taken.put_leaf(rest, leaf, parent);
             continue;
         }
-        let read = parse_value(lut, text, found, depth, parent, rest);
-        let Parsed::On(behind) = read else {
-            return read;
-        };
-        state = behind;
+        state = parse_value(text, found, depth, parent, rest)?;
     }
 }
 
 // parse_map_value: behind the brace.
 // Map ::= '{' (Separator* Comment* Property)* Separator* Comment* '}'
 #[cycle(values)]
-fn parse_map_value(
-    lut: &[u8; 768],
-    text: &[u8],
-    st: State,
-    depth: u32,
-    parent: Parent,
-    rest: &mut [u32],
-) -> Parsed
-    requires { Lent lut.now text.now }
+fn parse_map_value(text: &[u8], st: State, depth: u32, parent: Parent, rest: &mut [u32]) -> Parsed
+    requires { Lent text.now }
     ensures { Quiet (map_in text.now (λ q. value_in text.now depth parent.base q) parent.base parent.node) st result rest.old rest.new }
 {
     let under = Parent {
@@ -158,56 +120,35 @@ fn parse_map_value(
         node: st.next,
     };
     let opened = st.open();
-    let read = parse_properties(lut, text, opened, depth, under, rest);
-    let Parsed::On(state) = read else {
-        return read;
-    };
+    let state = parse_properties(text, opened, depth, under, rest)?;
     let last = st.last;
     let start = last.start;
     state.put_node(rest, st.next, ast::kind::MAP_VALUE, 0, start, parent);
-    Parsed::On(state)
+    Ok(state)
 }
 
 // The properties up to the closing brace, and that.
 #[cycle(values)]
-fn parse_properties(
-    lut: &[u8; 768],
-    text: &[u8],
-    st: State,
-    depth: u32,
-    parent: Parent,
-    rest: &mut [u32],
-) -> Parsed
-    requires { Lent lut.now text.now }
+fn parse_properties(text: &[u8], st: State, depth: u32, parent: Parent, rest: &mut [u32]) -> Parsed
+    requires { Lent text.now }
     ensures { Quiet (properties_in text.now (property_in text.now (λ q. value_in text.now depth parent.base q) parent.base parent.node)) st result rest.old rest.new }
 {
     let mut state = st;
     loop {
-        let over = state.skip_all(lut, text, true);
-        let found = over.skip_all(lut, text, false);
+        let over = state.skip_all(text, true);
+        let found = over.skip_all(text, false);
         if found.kind == token::kind::RIGHT_BRACE {
-            return found.take(lut, text);
+            return found.take(text);
         }
-        let read = parse_property(lut, text, found, depth, parent, rest);
-        let Parsed::On(past) = read else {
-            return read;
-        };
-        state = past;
+        state = parse_property(text, found, depth, parent, rest)?;
     }
 }
 
 // A property: two values with a colon between.
 // Property ::= Value ':' Value
 #[cycle(values)]
-fn parse_property(
-    lut: &[u8; 768],
-    text: &[u8],
-    st: State,
-    depth: u32,
-    parent: Parent,
-    rest: &mut [u32],
-) -> Parsed
-    requires { Lent lut.now text.now }
+fn parse_property(text: &[u8], st: State, depth: u32, parent: Parent, rest: &mut [u32]) -> Parsed
+    requires { Lent text.now }
     ensures { Quiet (property_in text.now (λ q. value_in text.now depth parent.base q) parent.base parent.node) st result rest.old rest.new }
 {
     let under = Parent {
@@ -215,19 +156,10 @@ fn parse_property(
         node: st.next,
     };
     let opened = st.open();
-    let first = parse_value(lut, text, opened, depth, under, rest);
-    let Parsed::On(key) = first else {
-        return first;
-    };
-    let colon = key.expect(lut, text, token::kind::COLON, error::UNEXPECTED_TOKEN);
-    let Parsed::On(behind) = colon else {
-        return colon;
-    };
-    let second = parse_value(lut, text, behind, depth, under, rest);
-    let Parsed::On(state) = second else {
-        return second;
-    };
+    let key = parse_value(text, opened, depth, under, rest)?;
+    let behind = key.expect(text, token::kind::COLON, ErrorKind::UnexpectedToken)?;
+    let state = parse_value(text, behind, depth, under, rest)?;
     let start = st.start();
     state.put_node(rest, st.next, ast::kind::PROPERTY, 0, start, parent);
-    Parsed::On(state)
+    Ok(state)
 }

@@ -2,7 +2,7 @@
 use mathlib.Core.Path.{◌≡◌}
 use mathlib.Core.Bool.{Bool, true}
 use mathlib.Core.List.{List, [], ◌∷◌}
-use mathlib.Core.Option.{Option, some, none}
+use Rattle.std.specs.Prelude.{Option, Some, None}
 use Prim.Native.Nat.{ℕ, suc}
 use Rattle.token.specs.Code.{among}
 use Rattle.token.specs.declared.Token.{Token}
@@ -54,8 +54,8 @@ use Rattle.parser.specs.Definitions.{field_names}
 
 -- of what may be there
 pub data EachOption {A : Type 0} (W : A → Type 0) : Option A → Type 0 where
-  enone : EachOption W none
-  esome : {x : A} → W x → EachOption W (some x)
+  enone : EachOption W None
+  esome : {x : A} → W x → EachOption W (Some x)
 
 module _ (Holds : Lexeme → Type 0) where
   -- a lexeme of one of these kinds

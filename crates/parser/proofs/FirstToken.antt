@@ -6,7 +6,7 @@
 use mathlib.Core.Path.{◌≡◌, refl}
 use mathlib.Core.Bool.{false}
 use mathlib.Core.List.{List, [], ◌∷◌}
-use mathlib.Core.Option.{some, none}
+use Rattle.std.specs.Prelude.{Some, None}
 use Rattle.token.specs.Code.{among}
 use Rattle.token.specs.declared.Token.TheVariants as T
 use Rattle.lexer.specs.declared.location.LOC.{LOC}
@@ -17,18 +17,18 @@ use Rattle.parser.specs.Steps.{kind, place, span, St, pos, MissingTypeDeclaratio
 use Rattle.parser.specs.Types.{leaf_types, container_types, type_by, field_type}
 use Rattle.parser.specs.Definitions.{parse_type, parse_field_id, parse_required, parse_field}
 
-pub type_missing : (l : LOC) (c : List Lexeme) → parse_type (pos l c []) ≡ no (raise MissingTypeDeclaration none) l
+pub type_missing : (l : LOC) (c : List Lexeme) → parse_type (pos l c []) ≡ no (raise MissingTypeDeclaration None) l
 unfolding parse_type field_type type_by
 type_missing l c = refl
 
 module _ (l : LOC) (c : List Lexeme) (t : Lexeme) (ts : List Lexeme) (leaf : among (kind t) leaf_types ≡ false) (container : among (kind t) container_types ≡ false) where
-  pub type_unsupported : parse_type (pos l c (t ∷ ts)) ≡ no (raise UnsupportedType (some t)) (place t)
+  pub type_unsupported : parse_type (pos l c (t ∷ ts)) ≡ no (raise UnsupportedType (Some t)) (place t)
   unfolding parse_type field_type type_by next bind test refuse
   type_unsupported = rw (leaf, container)
 
 module _ (l : LOC) (c : List Lexeme) (t : Lexeme) (ts : List Lexeme) (leaf : among (kind t) leaf_types ≡ false) (container : among (kind t) container_types ≡ false)
     (id : among (kind t) (T.IntegerLiteral ∷ []) ≡ false) (first : among (kind t) (T.Required ∷ []) ≡ false) (second : among (kind t) (T.Optional ∷ []) ≡ false) where
-  pub field_unsupported : parse_field (pos l c (t ∷ ts)) ≡ no (raise UnsupportedType (some t)) (place t)
+  pub field_unsupported : parse_field (pos l c (t ∷ ts)) ≡ no (raise UnsupportedType (Some t)) (place t)
   unfolding parse_field taken start bind parse_field_id parse_required when test peek
   field_unsupported = rw (id, first, second, type_unsupported l [] t ts leaf container)
 

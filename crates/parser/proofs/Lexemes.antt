@@ -10,8 +10,8 @@ use lib.ListN.{length, take, drop, length-drop}
 use Rattle.token.specs.Patterns.{rules}
 use Rattle.token.specs.Match.{First}
 use Rattle.token.specs.Scan.{scan}
-use Rattle.token.specs.declared.Scan.{Scan}
-use Rattle.token.specs.declared.Scan.TheVariants.{Miss, Hit}
+use Rattle.token.specs.Scanned.{Scan}
+use Rattle.std.specs.Prelude.{Some, None}
 use Rattle.token.proofs.Keyword.{hit_first}
 use Rattle.lexer.specs.declared.location.Lexer.{Lexer}
 use Rattle.lexer.specs.declared.location.ParserToken.{ParserToken}
@@ -52,8 +52,8 @@ ruled_step m [] ih h = rw cuts_nil tt
 ruled_step m (c ∷ t) ih h = go (scan (c ∷ t)) refl
   where
     go : (s : Scan) → scan (c ∷ t) ≡ s → Ruled (cuts (c ∷ t))
-    go Miss e = rw (cuts_miss (c ∷ t) (omega arith) e) tt
-    go (Hit k n) e =
+    go None e = rw (cuts_miss (c ∷ t) (omega arith) e) tt
+    go (Some (k, n)) e =
         rw (cuts_hit (c ∷ t) k n e)
         (hit_first (c ∷ t) k n e, ih (drop n (c ∷ t)) (omega (arith, length-drop n (c ∷ t), (hit_fits (c ∷ t) k n e).0)))
 

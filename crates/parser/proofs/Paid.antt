@@ -7,15 +7,14 @@
 use mathlib.Core.Path.{◌≡◌, refl}
 use mathlib.Core.Bool.{Bool, true, false, cond}
 use mathlib.Core.List.{List, [], ◌∷◌, ◌++◌}
-use mathlib.Core.Option.{Option, some, none}
+use Rattle.std.specs.Prelude.{Option, Some, None}
 use Prim.Native.Nat.{ℕ, suc, zero, ◌+◌, ◌*◌, ◌-◌, ◌≤◌}
 use native.Mathlib.Omega.{arith}
 use lib.ListN.{length, take, drop, length-append}
 use Rattle.token.specs.Scan.{scan}
 use Rattle.token.specs.declared.Token.{Token}
 use Rattle.token.specs.declared.Token.TheVariants as T
-use Rattle.token.specs.declared.Scan.{Scan}
-use Rattle.token.specs.declared.Scan.TheVariants.{Miss, Hit}
+use Rattle.token.specs.Scanned.{Scan}
 use Rattle.lexer.specs.Outcome.{Outcome, accepted, refused as rejected}
 use Rattle.lexer.specs.declared.location.LOC.{LOC}
 use Rattle.lexer.specs.declared.location.Lexer.{Lexer}
@@ -228,14 +227,14 @@ module _ {count : Tree → ℕ} {counts : Forest → ℕ} {own : List Lexeme →
 
   of_perhaps : {A : Type 0} (f : A → Tree) (o : Option A) (r : Forest) → counts (perhaps f o r) ≡ counts (perhaps f o bare) + counts r
   unfolding perhaps
-  of_perhaps f none r = omega (arith, m.of_bare)
-  of_perhaps f (some x) r = omega (arith, m.of_grown (f x) r, m.of_grown (f x) bare, m.of_bare)
+  of_perhaps f None r = omega (arith, m.of_bare)
+  of_perhaps f (Some x) r = omega (arith, m.of_grown (f x) r, m.of_grown (f x) bare, m.of_bare)
 
-  of_some : {A : Type 0} (f : A → Tree) (x : A) → counts (perhaps f (some x) bare) ≡ count (f x)
+  of_some : {A : Type 0} (f : A → Tree) (x : A) → counts (perhaps f (Some x) bare) ≡ count (f x)
   unfolding perhaps
   of_some f x = omega (arith, m.of_grown (f x) bare, m.of_bare)
 
-  of_none : {A : Type 0} (f : A → Tree) → counts (perhaps f none bare) ≡ 0
+  of_none : {A : Type 0} (f : A → Tree) → counts (perhaps f None bare) ≡ 0
   unfolding perhaps
   of_none f = m.of_bare
 
@@ -322,14 +321,14 @@ module _ {count : Tree → ℕ} {counts : Forest → ℕ} {own : List Lexeme →
 
   of_throws : (th : Option (List Field)) (r : Forest) → counts (throws_trees th r) ≡ counts (throws_trees th bare) + counts r
   unfolding throws_trees
-  of_throws none r = omega (arith, m.of_bare)
-  of_throws (some fs) r = of_each (field_tree 16) fs r
+  of_throws None r = omega (arith, m.of_bare)
+  of_throws (Some fs) r = of_each (field_tree 16) fs r
 
-  of_quiet : counts (throws_trees none bare) ≡ 0
+  of_quiet : counts (throws_trees None bare) ≡ 0
   unfolding throws_trees
   of_quiet = m.of_bare
 
-  of_thrown : (fs : List Field) → counts (throws_trees (some fs) bare) ≡ counts (each (field_tree 16) fs bare)
+  of_thrown : (fs : List Field) → counts (throws_trees (Some fs) bare) ≡ counts (each (field_tree 16) fs bare)
   unfolding throws_trees
   of_thrown fs = refl
 
@@ -897,8 +896,8 @@ from_bound (c ∷ t) zero s = go (scan (c ∷ t)) (from_bound t)
 
     go : (a : Scan) → ((n : ℕ) (s : Lexer) → length (lexemes (cuts_from t n) s) ≤ length t) →
         length (lexemes (cut_at a (c ∷ t) (cuts_from t)) s) ≤ suc (length t)
-    go Miss ih = omega arith
-    go (Hit k n) ih =
+    go None ih = omega arith
+    go (Some (k, n)) ih =
         let e = passed (take n (c ∷ t)) k (drop n (c ∷ t)) s in
         omega (arith, kept (skipped k) (lexeme k (take n (c ∷ t)) (between s e)) (lexemes (cuts_from t (n - 1)) e), ih (n - 1) e)
 

@@ -5,7 +5,7 @@
 use mathlib.Core.Path.{◌≡◌, refl, sym, ap, ◌∙◌}
 use mathlib.Core.Bool.{Bool, true, false, cond, ◌||◌, false≢true}
 use mathlib.Core.List.{List, [], ◌∷◌, Memᴰ}
-use mathlib.Core.Option.{Option, none}
+use Rattle.std.specs.Prelude.{Option, None}
 use Prim.Native.Nat.{ℕ, ◌≤◌}
 use lib.Dec.{eqb}
 use lib.ListN.{length}
@@ -41,7 +41,7 @@ refusal_of : {text : List ℕ} (short : length text ≤ 65536) {r : Raised} {l :
 refusal_of short (none_left e) = R.none_left e
 refusal_of short (in_hand h f) = R.in_hand h f
 
-at_end : {text : List ℕ} {e : ℕ} {x : Option Lexeme} {l : LOC} → Refusal text (raise e x) l → end_kind e ≡ true → (x ≡ none) × (l ≡ last_place text)
+at_end : {text : List ℕ} {e : ℕ} {x : Option Lexeme} {l : LOC} → Refusal text (raise e x) l → end_kind e ≡ true → (x ≡ None) × (l ≡ last_place text)
 at_end (R.none_left p) h = (refl, p)
 at_end (R.in_hand m f) h = absurd (false≢true (sym f ∙ h))
 
@@ -49,7 +49,7 @@ module _ (text : List ℕ) (short : length text ≤ 65536) where
   pub refusals : (r : Raised) (l : LOC) → parsed text ≡ no r l → Refusal text r l
   refusals r l e = refusal_of short (document_fault text short (Member text) (members (tokens text opening)) e)
 
-  pub none_in_hand : (e : ℕ) (x : Option Lexeme) (l : LOC) → parsed text ≡ no (raise e x) l → end_kind e ≡ true → (x ≡ none) × (l ≡ last_place text)
+  pub none_in_hand : (e : ℕ) (x : Option Lexeme) (l : LOC) → parsed text ≡ no (raise e x) l → end_kind e ≡ true → (x ≡ None) × (l ≡ last_place text)
   none_in_hand e x l p h = at_end (refusals (raise e x) l p) h
 
 -- ---- answers

@@ -6,7 +6,7 @@
 use mathlib.Core.Path.{◌≡◌, refl, ap}
 use mathlib.Core.Bool.{Bool, true, false, cond}
 use mathlib.Core.List.{List, [], ◌∷◌, ◌++◌}
-use mathlib.Core.Option.{some, none}
+use Rattle.std.specs.Prelude.{Some, None}
 use Prim.Native.Nat.{ℕ, suc, zero}
 use Rattle.token.specs.declared.Token.{Token}
 use Rattle.token.specs.declared.Token.TheVariants as T
@@ -83,8 +83,8 @@ unfoldable pub move_s : (Span → Span) → St → St
 move_s h (pos l c ts) = pos (move_loc h l) (moves h c) (moves h ts)
 
 abbrev pub move_e : (Span → Span) → Raised → Raised
-move_e h (raise e none) = raise e none
-move_e h (raise e (some t)) = raise e (some (move_l h t))
+move_e h (raise e None) = raise e None
+move_e h (raise e (Some t)) = raise e (Some (move_l h t))
 
 unfoldable pub move_r : {A B : Type 0} → (Span → Span) → (A → B) → Res A → Res B
 move_r h f (ok a s) = ok (f a) (move_s h s)

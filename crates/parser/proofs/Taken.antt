@@ -7,7 +7,6 @@ use Prim.Native.Nat.{ℕ, ◌≤◌}
 use lib.ListN.{length}
 use Rattle.lexer.specs.Outcome.{Outcome, accepted, refused}
 use Rattle.lexer.specs.Check.{checked}
-use Rattle.utf8.specs.Found.{found}
 use Rattle.lexer.proofs.CheckLaws.{fine}
 use Rattle.lexer.proofs.Ascii.{fine_means}
 use Rattle.ast.specs.Ast.{Definition}
@@ -33,8 +32,7 @@ unfolding definitions
 same xs ds e = ap definitions e
 
 fine_nil : (t : List ℕ) {ns : List ℕ} → checked t ≡ accepted ns → checked t ≡ accepted []
-unfolding found
-fine_nil t e = let f = fine_means t e in fine t f.0 (ap found f.1) (ap found f.2)
+fine_nil t e = let f = fine_means t e in fine t f.0 f.1 f.2
 
 taken_by : (c : Outcome (List ℕ)) (m : Res (List Definition)) (t : List ℕ) (ds : List Definition) → checked t ≡ c → parsed t ≡ m → outcome_by c t ≡ accepted ds → Taken t ds
 unfolding outcome_by answered accepts

@@ -8,7 +8,7 @@
 use mathlib.Core.Path.{◌≡◌, refl, sym}
 use mathlib.Core.Bool.{Bool, true, false, cond, ◌||◌, false≢true}
 use mathlib.Core.List.{List, [], ◌∷◌, ◌++◌, Memᴰ}
-use mathlib.Core.Option.{some, none}
+use Rattle.std.specs.Prelude.{Some, None}
 use Prim.Native.Nat.{ℕ, suc, zero, ◌+◌, ◌<◌, ◌≤◌}
 use native.Mathlib.Omega.{arith}
 use lib.ListN.{length}
@@ -274,8 +274,8 @@ module _ (n : ℕ) (short : n ≤ 65536) (Holds : Lexeme → Type 0) (z : LOC) w
 
   -- with no token left, at the last one; or with one of the tokens in hand, and then not with 3, 5 or 7
   pub data Fault : Raised → LOC → Type 0 where
-    none_left : {e : ℕ} {l : LOC} → l ≡ z → Fault (raise e none) l
-    in_hand : {e : ℕ} {t : Lexeme} → Holds t → end_kind e ≡ false → Fault (raise e (some t)) (place t)
+    none_left : {e : ℕ} {l : LOC} → l ≡ z → Fault (raise e None) l
+    in_hand : {e : ℕ} {t : Lexeme} → Holds t → end_kind e ≡ false → Fault (raise e (Some t)) (place t)
 
   -- a reading refuses, or gives what U says and leaves a state that G says
   data Gives {A : Type 0} (U : A → Type 0) (G : A → St → Type 0) : Res A → Type 0 where

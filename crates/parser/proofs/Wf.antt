@@ -1,7 +1,7 @@
 -- What every reading gives: the kinds of its lexemes, the nesting, the counts. Good k w: what is known of each token, its kind k and its bytes w.
 use mathlib.Core.Path.{◌≡◌}
 use mathlib.Core.Bool.{Bool, true}
-use mathlib.Core.Option.{Option, some, none}
+use Rattle.std.specs.Prelude.{Option, Some, None}
 use mathlib.Core.List.{List, [], ◌∷◌}
 use Prim.Native.Nat.{ℕ, suc, ◌<◌}
 use lib.ListN.{length}
@@ -99,20 +99,20 @@ module _ (Good : Token → List ℕ → Type 0) where
     wannotations : {l : LOC} {xs : List Annotation} → All WfAnnotation xs → length xs < most → WfAnnotations (annotations l xs)
 
   pub data WfId : Option Lexeme → Type 0 where
-    wnoid : WfId none
-    wid : {t : Lexeme} → Tok (T.IntegerLiteral ∷ []) t → is_id (bytes t) ≡ true → WfId (some t)
+    wnoid : WfId None
+    wid : {t : Lexeme} → Tok (T.IntegerLiteral ∷ []) t → is_id (bytes t) ≡ true → WfId (Some t)
 
   pub data WfDefault : Option FieldInitialValue → Type 0 where
-    wnone : WfDefault none
-    wsome : {v : FieldInitialValue} → WfValue 32 v → WfDefault (some v)
+    wnone : WfDefault None
+    wsome : {v : FieldInitialValue} → WfValue 32 v → WfDefault (Some v)
 
   pub data WfField : Field → Type 0 where
     wfield : {l : LOC} {c : List Lexeme} {i : Option Lexeme} {q : Required} {t : FieldType} {n : Lexeme} {v : Option FieldInitialValue} {a : Annotations} →
         All (Tok comment_kinds) c → WfId i → WfType 32 t → Tok field_names n → WfDefault v → WfAnnotations a → WfField (field l c i q t n v a)
 
   pub data WfThrows : Option (List Field) → Type 0 where
-    wquiet : WfThrows none
-    wthrows : {fs : List Field} → All WfField fs → length fs < most → WfThrows (some fs)
+    wquiet : WfThrows None
+    wthrows : {fs : List Field} → All WfField fs → length fs < most → WfThrows (Some fs)
 
   pub data WfReturn : FieldType → Type 0 where
     wvoid : {t : Lexeme} → Tok (T.Void ∷ []) t → WfReturn (CommonType t)
@@ -125,8 +125,8 @@ module _ (Good : Token → List ℕ → Type 0) where
 
   -- a lexeme of one of these kinds, if any: an initializer, an extended service
   pub data WfOption (ks : List Token) : Option Lexeme → Type 0 where
-    wnothing : WfOption ks none
-    wjust : {t : Lexeme} → Tok ks t → WfOption ks (some t)
+    wnothing : WfOption ks None
+    wjust : {t : Lexeme} → Tok ks t → WfOption ks (Some t)
 
   pub data WfMember : EnumMember → Type 0 where
     wmember : {l : LOC} {c : List Lexeme} {n : Lexeme} {v : Option Lexeme} {a : Annotations} →

@@ -1,6 +1,6 @@
 -- Definitions: rico's parser/definitions.rs, function by function.
 use Rattle.std.specs.Prelude.{Bool, true, false, cond, not, ◌&&◌, List, [], ◌∷◌, ℕ, ◌+◌, ◌*◌, ◌-◌, ◌^◌, eqb, ltb}
-use Rattle.std.proofs.Math.Option.{Option, some, none}
+use Rattle.std.specs.Prelude.{Option, Some, None}
 use Rattle.token.specs.declared.Token.{Token}
 use Rattle.token.specs.declared.Token.TheVariants as T
 use Rattle.lexer.specs.declared.location.LOC.{LOC}
@@ -104,13 +104,13 @@ id_or other =
     when (T.IntegerLiteral ∷ [])
     (do
       t ← next
-      test (is_id (bytes t)) (do want (T.Colon ∷ []) UnexpectedToken; pure (some t)) (refuse InvalidFieldId t))
+      test (is_id (bytes t)) (do want (T.Colon ∷ []) UnexpectedToken; pure (Some t)) (refuse InvalidFieldId t))
     other
 
 -- THE FIELD RULE: without an id no token is taken (document 02, Change 4; rico's own rule is in `rico/specs/Fields`)
 -- FieldId ::= integer ':'
 unfoldable pub parse_field_id : P (Option Lexeme)
-parse_field_id = id_or (pure none)
+parse_field_id = id_or (pure None)
 
 -- Required ::= 'required' | 'optional'
 unfoldable pub parse_required : P Required
@@ -126,7 +126,7 @@ field_names =
 
 -- Default ::= '=' Value
 unfoldable pub parse_default : P (Option FieldInitialValue)
-parse_default = when (T.Equals ∷ []) (do next; v ← parse_value; pure (some v)) (pure none)
+parse_default = when (T.Equals ∷ []) (do next; v ← parse_value; pure (Some v)) (pure None)
 
 -- Field ::= FieldId? Required? Type FieldName Default? Annotations?
 unfoldable pub parse_field : P Field
@@ -163,7 +163,7 @@ parse_parameters = parse_members T.LeftParen T.RightParen parse_field
 
 -- Throws ::= 'throws' '(' Field* ')'
 unfoldable pub parse_throws : P (Option (List Field))
-parse_throws = when (T.Throws ∷ []) (do next; fs ← parse_parameters; pure (some fs)) (pure none)
+parse_throws = when (T.Throws ∷ []) (do next; fs ← parse_parameters; pure (Some fs)) (pure None)
 
 -- ReturnType ::= 'void' | Type
 unfoldable pub parse_return_type : P FieldType
@@ -195,8 +195,8 @@ parse_initializer =
     (do
       next
       t ← want (T.IntegerLiteral ∷ T.HexLiteral ∷ []) InvalidValueDeclaration
-      pure (some t))
-    (pure none)
+      pure (Some t))
+    (pure None)
 
 -- EnumMember ::= name Initializer? Annotations?
 unfoldable pub parse_enum_member : P EnumMember
@@ -274,7 +274,7 @@ parse_structure s = do
 
 -- Extends ::= 'extends' name
 unfoldable pub parse_extends : P (Option Lexeme)
-parse_extends = when (T.Extends ∷ []) (do next; t ← want (T.Identifier ∷ []) MissingServiceExtends; pure (some t)) (pure none)
+parse_extends = when (T.Extends ∷ []) (do next; t ← want (T.Identifier ∷ []) MissingServiceExtends; pure (Some t)) (pure None)
 
 -- Service ::= 'service' name Extends? '{' Function* '}' Annotations?
 unfoldable pub parse_service : P Definition

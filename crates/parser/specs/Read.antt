@@ -1,6 +1,6 @@
 -- Reading as a whole: every row of document 01's table up to 25, for any text and any two tables.
 use Rattle.std.specs.Prelude.{cond, List, [], ◌∷◌, ℕ, ◌-◌, eqb, ltb, length}
-use Rattle.std.proofs.Math.Option.{some, none}
+use Rattle.std.specs.Prelude.{Some, None}
 use Rattle.lexer.specs.declared.location.LOC.{LOC}
 use Rattle.lexer.specs.Error.{UnrecognizedToken, UnexpectedEOF, NodesFull, CommentsFull}
 use Rattle.lexer.specs.Outcome.{Outcome, accepted, refused}
@@ -11,8 +11,10 @@ use Rattle.ast.specs.Ast.{Definition}
 use Rattle.ast.specs.Records.{comment_width, node_width, node_rows, notes, room, filled, cleared}
 use Rattle.parser.specs.Steps.{Raised, raise, Res, ok, no, pos}
 use Rattle.parser.specs.Definitions.{parse_document}
-use Rattle.parser.specs.declared.Answer.{Answer}
-use Rattle.parser.specs.declared.Answer.TheVariants.{Accepted, Refused}
+use Rattle.std.specs.declared.result.Result.{Result}
+use Rattle.lexer.specs.declared.error.Refusal.{Refusal}
+use Rattle.lexer.specs.Refusal.{said_by}
+use Rattle.parser.specs.declared.Counts.{Counts}
 
 -- the grammar over the tokens of a text
 unfoldable pub parsed : List ℕ → Res (List Definition)
@@ -21,8 +23,8 @@ parsed t = parse_document (pos (between opening opening) [] (tokens t opening))
 -- `error` of parser/mod.rs: with a token in hand the kind that was raised;
 -- with none left THE END RULE, whatever was raised: 3 if the last token ends at the text's length, else 1
 unfoldable pub error : Raised → LOC → List ℕ → ℕ
-error (raise e (some t)) l text = e
-error (raise e none) l text = cond (eqb l.end.index (length text)) UnexpectedEOF UnrecognizedToken
+error (raise e (Some t)) l text = e
+error (raise e None) l text = cond (eqb l.end.index (length text)) UnexpectedEOF UnrecognizedToken
 
 unfoldable pub answered : Res (List Definition) → List ℕ → Outcome (List Definition)
 answered (ok ds s) t = accepted ds
@@ -61,10 +63,12 @@ unfoldable pub rows_by : (List Definition → List (List ℕ)) → Outcome (List
 rows_by f (accepted ds) = f ds
 rows_by f (refused e p n) = []
 
--- what each case of the code's answer says
-unfoldable pub said : Answer → Outcome (List ℕ)
-said (Accepted n c) = accepted (n ∷ c ∷ [])
-said (Refused e p n) = refused e p n
+-- what the code's answer says
+abbrev pub Answer : Type 0
+Answer = Result Counts Refusal
+
+abbrev pub said : Answer → Outcome (List ℕ)
+said = said_by (λ c. c.nodes ∷ c.comments ∷ [])
 
 -- what a reading answers, and both tables afterwards
 pub record Reading : Type 0 where

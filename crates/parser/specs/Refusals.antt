@@ -1,7 +1,7 @@
 -- What the steps raise where a text is refused in the grammar (document 02, Change 8).
 use Rattle.std.specs.Prelude.{◌≡◌, Bool, false, ◌||◌, ℕ, eqb}
 use mathlib.Core.List.{List, [], ◌∷◌, Memᴰ}
-use Rattle.std.proofs.Math.Option.{some, none}
+use Rattle.std.specs.Prelude.{Some, None}
 use Prim.Native.String.{String}
 use Rattle.token.specs.Regex.{bytes}
 use Rattle.lexer.specs.declared.location.LOC.{LOC}
@@ -22,15 +22,15 @@ end_kind e = eqb e UnexpectedEOF || (eqb e MissingTypeDeclaration || eqb e Inval
 
 -- with no token left at the last one, whatever is raised; with a token of the text in hand at that one, and then neither 3 nor 5 nor 7
 pub data Refusal (text : List ℕ) : Raised → LOC → Type 0 where
-  none_left : {e : ℕ} {l : LOC} → l ≡ last_place text → Refusal text (raise e none) l
-  in_hand : {e : ℕ} {t : Lexeme} → Memᴰ t (tokens text opening) → end_kind e ≡ false → Refusal text (raise e (some t)) (place t)
+  none_left : {e : ℕ} {l : LOC} → l ≡ last_place text → Refusal text (raise e None) l
+  in_hand : {e : ℕ} {t : Lexeme} → Memᴰ t (tokens text opening) → end_kind e ≡ false → Refusal text (raise e (Some t)) (place t)
 
 -- ---- examples: the number raised, and whether a token is in hand
 
 unfoldable pub raised : {A : Type 0} → Res A → List ℕ
 raised (ok a s) = []
-raised (no (raise e none) l) = e ∷ 0 ∷ []
-raised (no (raise e (some t)) l) = e ∷ 1 ∷ []
+raised (no (raise e None) l) = e ∷ 0 ∷ []
+raised (no (raise e (Some t)) l) = e ∷ 1 ∷ []
 
 pub data Example : Type 0 where
   raises : String → ℕ → ℕ → Example

@@ -1,7 +1,7 @@
 -- The state of the parser, its answers, and the steps that every reader is made of: rico's parser/token.rs and parser/location.rs.
 -- The first of the tokens left is the one in hand where rico has advanced to it, and the one that it peeks at where it has not.
 use Rattle.std.specs.Prelude.{Bool, true, false, cond, List, [], ◌∷◌, ◌++◌, ℕ, suc, zero}
-use Rattle.std.proofs.Math.Option.{Option, some, none}
+use Rattle.std.specs.Prelude.{Option, Some, None}
 use Rattle.token.specs.Code.{among}
 use Rattle.token.specs.declared.Token.{Token}
 use Rattle.token.specs.declared.Token.TheVariants as T
@@ -73,21 +73,21 @@ when ks p q s = test (peek ks s) p q s
 
 -- refuse at the next token, or with none left at the last one
 unfoldable pub fail : {A : Type 0} → ℕ → P A
-fail e (pos l c []) = no (raise e none) l
-fail e (pos l c (t ∷ ts)) = no (raise e (some t)) (place t)
+fail e (pos l c []) = no (raise e None) l
+fail e (pos l c (t ∷ ts)) = no (raise e (Some t)) (place t)
 
 -- `None => Err(self.error(e))`: with no token left e is raised, else the step goes on
 abbrev pub needs : {A : Type 0} → ℕ → P A → P A
-needs e p (pos l c []) = no (raise e none) l
+needs e p (pos l c []) = no (raise e None) l
 needs e p (pos l c (t ∷ ts)) = p (pos l c (t ∷ ts))
 
 -- refuse at a token that was taken
 unfoldable pub refuse : {A : Type 0} → ℕ → Lexeme → P A
-refuse e t s = no (raise e (some t)) (place t)
+refuse e t s = no (raise e (Some t)) (place t)
 
 -- advance
 unfoldable pub next : P Lexeme
-next (pos l c []) = no (raise UnexpectedEOF none) l
+next (pos l c []) = no (raise UnexpectedEOF None) l
 next (pos l c (t ∷ ts)) = ok t (pos (place t) c ts)
 
 -- expect_token, consume, and both with an error kind: a token of one of these kinds, or refuse with e

@@ -28,7 +28,7 @@ use Rattle.token.specs.Patterns.{
 }
 use Rattle.token.specs.Scan.{derivs, first, keep, scan_from, scan}
 use Rattle.lexer.specs.Location.{pair, ends_line, behind, span_of, opening}
-use Rattle.place.specs.Place.{kind_of, length_of, walk, least, place_of}
+use Rattle.place.specs.Place.{kind_of, length_of, walk, place_of}
 
 -- a text, an offset, its line and its column
 pub data Case : Type 0 where
@@ -56,5 +56,5 @@ cases =
     ∷ []
 
 pub cases_hold : Hold cases
-unfolding code is bytes ranges within nullable is_nothing then or deriv one_of none_of plus opt exact word_rule token words marks name quoted digits sign exponent point stars shapes rest rules derivs first keep scan_from scan pair ends_line behind span_of opening kind_of length_of walk least place_of
+unfolding code is bytes ranges within nullable is_nothing then or deriv one_of none_of plus opt exact word_rule token words marks name quoted digits sign exponent point stars shapes rest rules derivs first keep scan_from scan pair ends_line behind span_of opening kind_of length_of walk place_of
 cases_hold = (refl, (refl, (refl, (refl, (refl, (refl, (refl, (refl, (refl, tt)))))))))

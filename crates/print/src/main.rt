@@ -2,14 +2,10 @@
 // A refusal ends with status 0 too: what is on standard error tells that nothing was printed, or not all.
 #![tactic(auto)]
 
-mod refusal;
-
-ghost use Rattle.std.specs.Prelude.{◌≤◌};
-
+use lexer::error::Refusal;
 use std::env::{Env, FillError};
 use std::io;
-use std::io::{Read, Stderr, Stdin};
-use writer::Printed;
+use std::io::{Read, Stdin};
 
 // One byte more than the longest text.
 const TEXT: usize = 65537;
@@ -23,45 +19,16 @@ const COMMENTS: usize = 294912;
 // Six bytes for each of the longest text: an enum member of a letter and a comma takes 11 at indent 8.
 const PRINT: usize = 393216;
 
-// The indent that the arguments give.
-#[derive(Clone, Copy)]
-enum Indent {
-    Spaces(u32),
-    Unclear,
-}
-
-fn wide(byte: u8) -> u32
-    ensures { result ≤ 255 }
-{
-    byte as u32
-}
-
-// The number with a digit behind it; past the largest indent the digits do not count.
-fn with_digit(number: u32, digit: u8) -> u32 {
-    if number < 1000 {
-        number * 10 + wide(digit)
-    } else {
-        number
+// The number that a word spells, digits and nothing else; no more of it than a number holds.
+// `str::parse` takes a sign too, and no number past the largest.
+fn spelled(word: &[u8]) -> Option<u32> {
+    if word.is_empty() {
+        return None;
     }
-}
-
-// The number that a word spells.
-fn spelled(word: &[u8]) -> Indent {
-    if word.len() == 0 {
-        return Indent::Unclear;
-    }
-    let mut number: u32 = 0;
-    for i in 0..word.len() {
-        let byte = word[i];
-        if byte < b'0' {
-            return Indent::Unclear;
-        }
-        if b'9' < byte {
-            return Indent::Unclear;
-        }
-        number = with_digit(number, byte - b'0');
-    }
-    Indent::Spaces(number)
+    word.iter().try_fold(0u32, |number, &byte| {
+        let digit = (byte as char).to_digit(10)?;
+        Some(number.saturating_mul(10).saturating_add(digit))
+    })
 }
 
 // Whether there is an argument so far behind the program's name.
@@ -70,18 +37,17 @@ fn has_argument(rt: &HostRuntime, i: usize) -> bool {
     !matches!(rt.arg(i, &mut word), Err(FillError::NotPresent))
 }
 
-fn read_indent(rt: &HostRuntime) -> Indent {
+// The indent that the arguments give.
+fn read_indent(rt: &HostRuntime) -> Option<u32> {
     if !has_argument(rt, 1) {
-        return Indent::Spaces(2);
+        return Some(2);
     }
     if has_argument(rt, 2) {
-        return Indent::Unclear;
+        return None;
     }
     let mut word = [0u8; 20];
-    match rt.arg(1, &mut word) {
-        Ok(n) => spelled(&word[..n]),
-        Err(_) => Indent::Unclear,
-    }
+    let length = rt.arg(1, &mut word).ok()?;
+    spelled(&word[..length])
 }
 
 // Whether standard input is at its end: a read that fails ends a text too, and part of a text may not pass for it.
@@ -90,21 +56,26 @@ fn is_at_end(mut input: Stdin) -> bool {
     matches!(input.read(&mut byte), Ok(0))
 }
 
-fn say(err: Stderr, line: &[u8]) -> io::Result<()> {
-    err.write_all(line)
-}
-
 fn write_print(rt: &HostRuntime, out: &[u8], bytes: usize) -> io::Result<()> {
-    if out.len() < bytes {
+    let Some(print) = out.get(..bytes) else {
         return Ok(());
-    }
-    if rt.stdout().write_all(&out[..bytes]).is_err() {
-        return say(
-            rt.stderr(),
-            b"print: standard output didn't take the whole print\n",
-        );
+    };
+    if rt.stdout().write_all(print).is_err() {
+        return eprintln!(rt; "print: standard output didn't take the whole print");
     }
     Ok(())
+}
+
+// Writes the line of a text's refusal: its number, where it is, and what is wrong.
+fn write_refusal(rt: &HostRuntime, text: &[u8], refusal: Refusal) -> io::Result<()> {
+    let Refusal { kind, place, .. } = refusal;
+    let at = place::find(text, place);
+    eprintln!(rt;
+        "refused {} at {}:{}: {kind}",
+        kind.number(),
+        at.line,
+        at.column
+    )
 }
 
 // Prints with these tables and this output.
@@ -117,16 +88,8 @@ fn print_with(
     out: &mut [u8],
 ) -> io::Result<()> {
     match printer::print(text, indent, nodes, comments, out) {
-        Printed::Accepted {
-            nodes: _,
-            comments: _,
-            bytes,
-        } => { write_print(rt, out, bytes) }
-        Printed::Refused {
-            number,
-            place,
-            length: _,
-        } => { refusal::write(rt.stderr(), number, place::find(text, place)) }
+        Ok(print) => write_print(rt, out, print.bytes),
+        Err(refusal) => write_refusal(rt, text, refusal),
     }
 }
 
@@ -140,29 +103,17 @@ fn print_text(rt: &HostRuntime, text: &[u8], indent: u32) -> io::Result<()> {
 fn print_input(rt: &HostRuntime, indent: u32) -> io::Result<()> {
     let mut text: [u8; TEXT] = [0; TEXT];
     let input = rt.stdin();
-    let Ok(n) = input::read_full(input, &mut text) else {
-        return say(
-            rt.stderr(),
-            b"print: standard input can't be read to its end\n",
-        );
-    };
-    if n < TEXT {
-        if !is_at_end(input) {
-            return say(
-                rt.stderr(),
-                b"print: standard input can't be read to its end\n",
-            );
-        }
+    match input::read_full(input, &mut text) {
+        Ok(n) if n == TEXT || is_at_end(input) => print_text(rt, &text[..n], indent),
+        _ => eprintln!(rt; "print: standard input can't be read to its end"),
     }
-    print_text(rt, &text[..n], indent)
 }
 
 fn main(rt: HostRuntime) -> io::Result<()> {
     match read_indent(&rt) {
-        Indent::Spaces(indent) => print_input(&rt, indent),
-        Indent::Unclear => say(
-            rt.stderr(),
-            b"usage: print [INDENT] <TEXT; INDENT is the spaces a level, 0 to 8, 2 if not given\n",
+        Some(indent) => print_input(&rt, indent),
+        None => eprintln!(rt;
+            "usage: print [INDENT] <TEXT; INDENT is the spaces a level, 0 to 8, 2 if not given"
         ),
     }
 }

@@ -4,152 +4,131 @@
 
 ghost use Rattle.std.specs.Prelude.{◌≤◌};
 
+use lexer::error::Refusal;
 use std::io;
 use std::io::Stdout;
-use writer::Printed;
+use writer::{Print, Printed};
 
-// Writes a blank and a number.
-fn write_next(to: Stdout, number: usize) -> io::Result<()> {
-    print!(to; " {number}")
+// How many numbers are not 0, from an index on.
+fn count_from<T: Copy + Into<u32>>(numbers: &[T], start: usize) -> usize {
+    numbers
+        .iter()
+        .skip(start)
+        .filter(|&&number| number.into() != 0)
+        .count()
 }
 
-// How many numbers of a table are not 0, from an index on.
-fn count_numbers(table: &[u32], start: usize) -> usize {
-    let mut count: usize = 0;
-    for i in start..table.len() {
-        if table[i] != 0 {
-            count += 1;
-        }
-    }
-    count
-}
-
-fn count_bytes(bytes: &[u8], start: usize) -> usize {
-    let mut count: usize = 0;
-    for i in start..bytes.len() {
-        if bytes[i] != 0 {
-            count += 1;
-        }
-    }
-    count
-}
-
-// Writes what is not 0 past so many nodes, comments and bytes, and ends the line.
-fn write_past(
-    to: Stdout,
-    nodes: &[u32],
-    n: u32,
-    comments: &[u32],
-    c: u32,
-    out: &[u8],
-    bytes: usize,
-) -> io::Result<()> {
-    print!(to; " |")?;
-    write_next(to, count_numbers(nodes, n as usize * ast::NODE_WIDTH))?;
-    write_next(to, count_numbers(comments, c as usize * ast::COMMENT_WIDTH))?;
-    write_next(to, count_bytes(out, bytes))?;
-    println!(to)
-}
-
-// Writes the first bytes of the output.
-fn write_print(to: Stdout, out: &[u8], bytes: usize) -> io::Result<()> {
-    if bytes <= out.len() {
-        return to.write_all(&out[..bytes]);
-    }
-    Ok(())
-}
-
-// Writes an answer: A, the counts and the bytes, or R, number, place and length.
-fn write_answer(
-    to: Stdout,
+// What is answered for a printing, and what it leaves in all that it was lent.
+#[derive(Clone, Copy)]
+struct Printing<'a> {
     answer: Printed,
-    nodes: &[u32],
-    comments: &[u32],
-    out: &[u8],
-) -> io::Result<()> {
-    match answer {
-        Printed::Accepted {
-            nodes: n,
-            comments: c,
-            bytes,
-        } => {
-            print!(to; "A")?;
-            write_next(to, n as usize)?;
-            write_next(to, c as usize)?;
-            write_next(to, bytes)?;
-            write_past(to, nodes, n, comments, c, out, bytes)?;
-            write_print(to, out, bytes)
-        }
-        Printed::Refused {
-            number,
-            place,
-            length,
-        } => {
-            print!(to; "R")?;
-            write_next(to, number as usize)?;
-            write_next(to, place as usize)?;
-            write_next(to, length as usize)?;
-            write_past(to, nodes, 0, comments, 0, out, 0)
+    nodes: &'a [u32],
+    comments: &'a [u32],
+    out: &'a [u8],
+}
+
+impl Printing<'_> {
+    // Writes what is not 0 past so many nodes, comments and bytes, and ends the line.
+    fn write_past(self, to: Stdout, nodes: u32, comments: u32, bytes: usize) -> io::Result<()> {
+        let nodes = count_from(self.nodes, nodes as usize * ast::NODE_WIDTH);
+        let comments = count_from(self.comments, comments as usize * ast::COMMENT_WIDTH);
+        let bytes = count_from(self.out, bytes);
+        println!(to; " | {nodes} {comments} {bytes}")
+    }
+
+    // Writes the answer, A, the counts and the bytes, or R, number, place and length, and the print.
+    fn write(self, to: Stdout) -> io::Result<()> {
+        match self.answer {
+            Ok(
+                Print {
+                    nodes,
+                    comments,
+                    bytes,
+                },
+            ) => {
+                print!(to; "A {nodes} {comments} {bytes}")?;
+                self.write_past(to, nodes, comments, bytes)?;
+                to.write_all(self.out.get(..bytes).unwrap_or(&[]))
+            }
+            Err(
+                Refusal {
+                    kind,
+                    place,
+                    length,
+                },
+            ) => {
+                print!(to; "R {} {place} {length}", kind.number())?;
+                self.write_past(to, 0, 0, 0)
+            }
         }
     }
 }
 
-fn try_lent(
-    to: Stdout,
-    text: &[u8],
-    indent: u32,
-    nodes: &mut [u32],
-    comments: &mut [u32],
-    out: &mut [u8],
-) -> io::Result<()> {
-    let answer = printer::print(text, indent, nodes, comments, out);
-    write_answer(to, answer, nodes, comments, out)
-}
-
-// Prints a text with tables of so many numbers, into so many bytes.
-fn try_small(
-    to: Stdout,
-    text: &[u8],
-    indent: u32,
+// How many numbers of both tables and how many bytes a printing is lent.
+#[derive(Clone, Copy)]
+struct Room {
     nodes: usize,
     comments: usize,
     bytes: usize,
-) -> io::Result<()>
-    requires { (nodes ≤ 77) × (comments ≤ 20) × (bytes ≤ 50) }
-{
+    ghost in_nodes: { nodes ≤ 77 },
+    ghost in_comments: { comments ≤ 20 },
+    ghost in_bytes: { bytes ≤ 50 },
+}
+
+const ALL: Room = Room {
+    nodes: 77,
+    comments: 20,
+    bytes: 50,
+};
+
+// Prints a text with so much room.
+fn try_small(to: Stdout, text: &[u8], indent: u32, room: Room) -> io::Result<()> {
     let mut node_table: [u32; 77] = [7; 77];
     let mut comment_table: [u32; 20] = [7; 20];
-    let mut out: [u8; 50] = [7; 50];
-    try_lent(
-        to,
-        text,
-        indent,
-        &mut node_table[..nodes],
-        &mut comment_table[..comments],
-        &mut out[..bytes],
-    )
+    let mut output: [u8; 50] = [7; 50];
+    let nodes = &mut node_table[..room.nodes];
+    let comments = &mut comment_table[..room.comments];
+    let out = &mut output[..room.bytes];
+    let answer = printer::print(text, indent, nodes, comments, out);
+    let printing = Printing {
+        answer,
+        nodes,
+        comments,
+        out,
+    };
+    printing.write(to)
 }
 
 // The edge that prints 38 bytes at indent 2.
 fn try_field(to: Stdout, indent: u32, bytes: usize) -> io::Result<()>
     requires { bytes ≤ 50 }
 {
-    try_small(to, b"struct A{1:required i32 a=5;}", indent, 77, 20, bytes)
+    let room = Room {
+        nodes: 77,
+        comments: 20,
+        bytes,
+    };
+    try_small(to, b"struct A{1:required i32 a=5;}", indent, room)
 }
 
 // So many blanks.
 fn try_blanks(to: Stdout, count: usize, indent: u32) -> io::Result<()>
     requires { count ≤ 65537 }
 {
-    let space = [32u8; 65537];
-    try_small(to, &space[..count], indent, 77, 20, 50)
+    let space = [b' '; 65537];
+    try_small(to, &space[..count], indent, ALL)
 }
 
 // An enum with a comment: 2 nodes, 1 comment, 14 bytes.
 fn try_note(to: Stdout, nodes: usize, comments: usize, bytes: usize) -> io::Result<()>
     requires { (nodes ≤ 77) × (comments ≤ 20) × (bytes ≤ 50) }
 {
-    try_small(to, b"#c\nenum A{}", 2, nodes, comments, bytes)
+    let room = Room {
+        nodes,
+        comments,
+        bytes,
+    };
+    try_small(to, b"#c\nenum A{}", 2, room)
 }
 
 fn main(rt: HostRuntime) -> io::Result<()> {
@@ -162,13 +141,31 @@ fn main(rt: HostRuntime) -> io::Result<()> {
     try_blanks(to, 65537, 9)?;
     try_blanks(to, 65536, 9)?;
     try_blanks(to, 65536, 8)?;
-    try_small(to, b"\xff", 9, 77, 20, 50)?;
-    try_small(to, b"\xff", 8, 77, 20, 50)?;
+    try_small(to, b"\xff", 9, ALL)?;
+    try_small(to, b"\xff", 8, ALL)?;
     try_note(to, 19, 8, 13)?;
     try_note(to, 20, 8, 13)?;
     try_note(to, 20, 9, 13)?;
     try_note(to, 20, 9, 14)?;
-    try_small(to, b"enum A{", 2, 19, 8, 0)?;
-    try_small(to, b"", 2, 77, 20, 50)?;
-    try_small(to, b"", 2, 0, 0, 0)
+    try_small(
+        to,
+        b"enum A{",
+        2,
+        Room {
+            nodes: 19,
+            comments: 8,
+            bytes: 0,
+        },
+    )?;
+    try_small(to, b"", 2, ALL)?;
+    try_small(
+        to,
+        b"",
+        2,
+        Room {
+            nodes: 0,
+            comments: 0,
+            bytes: 0,
+        },
+    )
 }

@@ -9,8 +9,11 @@ use Prim.Native.Nat.{ℕ, ◌*◌, ◌-◌, ◌≤◌, ◌<◌}
 use borrow.Author.Tests.{lt-ltb, le-ltb}
 use lib.ListN.{length, take, replicate}
 use Rattle.ast.specs.Records.{comment_width, node_width, room}
-use Rattle.parser.specs.declared.Answer.{Answer}
-use Rattle.parser.specs.declared.Answer.TheVariants as A
+use Rattle.std.specs.Prelude.{Ok, Err}
+use Rattle.lexer.specs.Refusal.{number_of, said_by}
+use Rattle.lexer.specs.declared.error.Refusal.{Refusal}
+use Rattle.parser.specs.declared.Counts.{Counts}
+use Rattle.parser.specs.Read.{Answer}
 use Rattle.parser.specs.Read.{Reading, reading, said, told as read_told}
 use Rattle.steps.specs.Into.{rest_at, wiped}
 use Rattle.steps.proofs.Cells.{wipe_all}
@@ -56,10 +59,10 @@ module _ (text : List ℕ) (indent : ℕ) (t u o : List ℕ) where
     unfolding all by_reading
     all_read = ap (λ (r : Reading). by_reading r text indent o) e ∙ rw (le-ltb _ _ h, le-ltb _ _ k)
 
-    pub all_refused : (n p l : ℕ) → a ≡ A.Refused n p l → refusing n p l t₁ u₁ o ≡ all text indent t u o
-    unfolding by_answer said
-    all_refused n p l f = ap (λ (x : Answer). by_answer (said x) text indent t₁ u₁ o) (sym f) ∙ all_read
+    pub all_refused : (r : Refusal) → a ≡ Err r → refusing (number_of r.kind) r.place r.length t₁ u₁ o ≡ all text indent t u o
+    unfolding by_answer said_by
+    all_refused r f = ap (λ (x : Answer). by_answer (said x) text indent t₁ u₁ o) (sym f) ∙ all_read
 
-    pub all_accepted : (n c : ℕ) → a ≡ A.Accepted n c → writing text indent n c t₁ u₁ o ≡ all text indent t u o
-    unfolding by_answer said
-    all_accepted n c f = ap (λ (x : Answer). by_answer (said x) text indent t₁ u₁ o) (sym f) ∙ all_read
+    pub all_accepted : (c : Counts) → a ≡ Ok c → writing text indent c.nodes c.comments t₁ u₁ o ≡ all text indent t u o
+    unfolding by_answer said_by
+    all_accepted c f = ap (λ (x : Answer). by_answer (said x) text indent t₁ u₁ o) (sym f) ∙ all_read

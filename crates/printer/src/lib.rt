@@ -2,85 +2,77 @@
 #![tactic(auto)]
 
 ghost use Rattle.std.specs.Prelude.{◌≡◌};
+ghost use Rattle.lexer.specs.Refusal.{number_of};
 ghost use Rattle.writer.specs.Write.{told, printing};
 ghost use Rattle.printer.specs.Onto.{refusing, fits, writing};
 
-use cursor::Cursor;
-use lexer::error;
-use parser::Answer;
+use cursor::{Cursor, Writer};
+use lexer::error::{ErrorKind, Refusal};
+use parser::Counts;
 use steps::table;
-use writer::Printed;
+use writer::{Print, Printed};
 
-fn refuse(
-    number: u32,
-    place: u32,
-    length: u32,
-    nodes: &mut [u32],
-    comments: &mut [u32],
-    out: &mut [u8],
-) -> Printed
-    ensures { told result nodes.new comments.new out.new ≡ refusing number place length nodes.old comments.old out.old }
+fn refuse(refusal: Refusal, nodes: &mut [u32], comments: &mut [u32], out: &mut [u8]) -> Printed
+    ensures { told result nodes.new comments.new out.new ≡ refusing (number_of refusal.kind) refusal.place refusal.length nodes.old comments.old out.old }
 {
     table::clear(nodes, 0);
     table::clear(comments, 0);
     cursor::clear(out, 0);
-    Printed::Refused {
-        number,
-        place,
-        length,
-    }
+    Err(refusal)
 }
 
 // What was printed, if the output held it: else 27.
 fn fit(
-    n: u32,
-    c: u32,
+    counts: Counts,
     bytes: usize,
     nodes: &mut [u32],
     comments: &mut [u32],
     out: &mut [u8],
 ) -> Printed
-    ensures { told result nodes.new comments.new out.new ≡ fits n c bytes nodes.old comments.old out.old }
+    ensures { told result nodes.new comments.new out.new ≡ fits counts.nodes counts.comments bytes nodes.old comments.old out.old }
 {
     if out.len() < bytes {
-        return refuse(error::OUTPUT_FULL, 0, 0, nodes, comments, out);
+        return refuse(Refusal::at(ErrorKind::OutputFull, 0), nodes, comments, out);
     }
     cursor::clear(out, bytes);
-    Printed::Accepted {
-        nodes: n,
-        comments: c,
+    Ok(Print {
+        nodes: counts.nodes,
+        comments: counts.comments,
         bytes,
-    }
+    })
 }
 
 // Writes the definitions of both tables.
 fn write(
     text: &[u8],
     indent: u32,
-    n: u32,
-    c: u32,
+    counts: Counts,
     nodes: &mut [u32],
     comments: &mut [u32],
     out: &mut [u8],
 ) -> Printed
-    ensures { told result nodes.new comments.new out.new ≡ writing text.now indent n c nodes.old comments.old out.old }
+    ensures { told result nodes.new comments.new out.new ≡ writing text.now indent counts.nodes counts.comments nodes.old comments.old out.old }
 {
-    let at = Cursor {
-        node: 0,
-        comment: 0,
-        length: 0,
-    };
-    let last = table::rest_at(n as usize * ast::NODE_WIDTH, nodes.len());
-    let end = table::rest_at(c as usize * ast::COMMENT_WIDTH, comments.len());
-    let behind = write_definitions::write_document(
-        text,
-        &nodes[..last],
-        &comments[..end],
-        out,
-        at,
-        indent,
+    let last = table::rest_at(counts.nodes as usize * ast::NODE_WIDTH, nodes.len());
+    let end = table::rest_at(
+        counts.comments as usize * ast::COMMENT_WIDTH,
+        comments.len(),
     );
-    fit(n, c, behind.length, nodes, comments, out)
+    let mut writer = Writer {
+        text,
+        nodes: &nodes[..last],
+        comments: &comments[..end],
+        indent,
+        out,
+        at: Cursor {
+            node: 0,
+            comment: 0,
+            length: 0,
+        },
+    };
+    write_definitions::write_document(&mut writer);
+    let bytes = writer.at.length;
+    fit(counts, bytes, nodes, comments, out)
 }
 
 // Prints a text at an indent: reads it into both tables, then writes its definitions.
@@ -94,20 +86,18 @@ pub fn print(
     ensures { told result nodes.new comments.new out.new ≡ printing text.now indent nodes.old comments.old out.old }
 {
     if lexer::LIMIT < text.len() {
-        return refuse(error::TEXT_TOO_LONG, 0, 0, nodes, comments, out);
+        return refuse(Refusal::at(ErrorKind::TextTooLong, 0), nodes, comments, out);
     }
     if writer::WIDEST < indent {
-        return refuse(error::INDENT_TOO_WIDE, 0, 0, nodes, comments, out);
+        return refuse(
+            Refusal::at(ErrorKind::IndentTooWide, 0),
+            nodes,
+            comments,
+            out,
+        );
     }
     match reader::read(text, nodes, comments) {
-        Answer::Refused {
-            number,
-            place,
-            length,
-        } => refuse(number, place, length, nodes, comments, out),
-        Answer::Accepted {
-            nodes: n,
-            comments: c,
-        } => write(text, indent, n, c, nodes, comments, out),
+        Err(refusal) => refuse(refusal, nodes, comments, out),
+        Ok(counts) => write(text, indent, counts, nodes, comments, out),
     }
 }

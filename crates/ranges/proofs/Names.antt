@@ -3,7 +3,7 @@
 use mathlib.Core.Path.{◌≡◌, refl}
 use mathlib.Core.Bool.{Bool, true, false, cond}
 use mathlib.Core.List.{List, [], ◌∷◌}
-use mathlib.Core.Option.{Option, some, none}
+use Rattle.std.specs.Prelude.{Option, Some, None}
 use Prim.Native.Nat.{ℕ, ◌<◌}
 use native.Mathlib.Omega.{arith}
 use Rattle.token.specs.Code.{is}
@@ -140,8 +140,8 @@ module _ (Holds : Lexeme → Type 0) where
 
   perhaps_fits : {A : Type 0} {k : ℕ} (f : A → Tree) (x : Option A) {ts : Forest} → ((x : A) → Fitting (f x)) → FittingUnder k ts → FittingUnder k (perhaps f x ts)
   unfolding perhaps
-  perhaps_fits f none h r = r
-  perhaps_fits f (some x) h r = one_fits (h x) r
+  perhaps_fits f None h r = r
+  perhaps_fits f (Some x) h r = one_fits (h x) r
 
   -- ---- leaves
 

@@ -13,9 +13,9 @@ use Rattle.lexer.specs.Outcome.{Outcome, accepted, refused}
 use Rattle.ast.specs.Ast.{Definition}
 use Rattle.ast.specs.Records.{comment_width, node_width, node_rows, notes, room, chunks, filled}
 use Rattle.ast.proofs.Counts.{node_rows_wide, chunks_rows}
-use Rattle.parser.specs.declared.Answer.{Answer}
-use Rattle.parser.specs.declared.Answer.TheVariants.{Accepted}
-use Rattle.parser.specs.Read.{outcome, fitted, answer, left, rows_by, said, Reading, told, reading}
+use Rattle.std.specs.Prelude.{Ok}
+use Rattle.lexer.specs.Refusal.{said_by}
+use Rattle.parser.specs.Read.{Answer, outcome, fitted, answer, left, rows_by, said, Reading, told, reading}
 use Rattle.ranges.specs.Ranges.{Ranges}
 use Rattle.ranges.proofs.Claims.{ranges}
 
@@ -55,8 +55,8 @@ module _ (t ns cs : List ℕ) (n c : ℕ) where
   table_ranges e = by_outcome (outcome t) refl e
 
 pub code_ranges : (text nodes₀ comments₀ nodes₁ comments₁ : List ℕ) (r : Answer) (n c : ℕ) →
-    told r nodes₁ comments₁ ≡ reading text nodes₀ comments₀ → r ≡ Accepted n c → Ranges text (chunks node_width n nodes₁)
-unfolding said
+    told r nodes₁ comments₁ ≡ reading text nodes₀ comments₀ → r ≡ Ok (record { nodes = n; comments = c }) → Ranges text (chunks node_width n nodes₁)
+unfolding said_by
 code_ranges text nodes₀ comments₀ nodes₁ comments₁ r n c e a =
     let x : (reading text nodes₀ comments₀).nodes ≡ nodes₁ = sym (ap (λ (y : Reading). y.nodes) e) in
     let y : (reading text nodes₀ comments₀).says ≡ accepted (n ∷ c ∷ []) = sym (ap (λ (y : Reading). y.says) e) ∙ ap said a in

@@ -4,20 +4,18 @@
 use mathlib.Core.Path.{◌≡◌, refl, sym, ap, ◌∙◌}
 use mathlib.Core.Bool.{Bool, true, false, cond}
 use mathlib.Core.List.{List, [], ◌∷◌, ◌++◌, append_assoc, append-nil}
-use mathlib.Core.Option.{Option, some, none}
+use Rattle.std.specs.Prelude.{Option, Some, None}
 use Prim.Native.Nat.{ℕ, suc, ◌+◌, ◌*◌, ◌-◌, ◌≤◌}
 use native.Mathlib.Omega.{arith}
 use borrow.Author.Tests.{ltb-false}
 use lib.Dec.{eqb, ltb}
 use lib.ListN.{length, take, drop}
-use Rattle.utf8.specs.declared.Found.TheVariants.{Nowhere}
 use Rattle.lexer.specs.declared.location.LOC.{LOC}
 use Rattle.lexer.specs.Error.{UnexpectedEOF}
 use Rattle.lexer.specs.Outcome.{Outcome}
 use Rattle.lexer.specs.Location.{between, span_of, opening}
 use Rattle.lexer.specs.Tokens.{Lexeme, tokens}
 use Rattle.lexer.specs.Cuts.{cuts, unrecognized}
-use Rattle.utf8.specs.Found.{found}
 use Rattle.utf8.specs.Utf8.{ill_formed}
 use Rattle.lexer.proofs.CheckLaws.{unknown, fine}
 use Rattle.lexer.proofs.PlaceLaws.{opening_placed}
@@ -284,13 +282,13 @@ module _ (text : List ℕ) (short : length text ≤ 65536) where
   sound_means t u (went h) = sound_ahead h.ahead
   sound_means t u halted = refl
 
-  settled_means : {o : Out} (t u : List ℕ) → Meant (λ ds. At text 8 0 no_parent (lent t u) (forest ds)) o (parsed text) → found (ill_formed text) ≡ Nowhere
+  settled_means : {o : Out} (t u : List ℕ) → Meant (λ ds. At text 8 0 no_parent (lent t u) (forest ds)) o (parsed text) → ill_formed text ≡ None
       → (v : Option ℕ) → unrecognized (cuts text) 0 ≡ v → settled v o (length text) t u ≡ reading text t u
-  unfolding settled reading outcome outcome_by found
-  settled_means t u m b (some p) e = read_unknown text t u p (unknown text short p b (ap found e))
-  settled_means t u m b none e = rw (fine text short b (ap found e)) (judged_means t u (refusals text short) m)
+  unfolding settled reading outcome outcome_by
+  settled_means t u m b (Some p) e = read_unknown text t u p (unknown text short p b e)
+  settled_means t u m b None e = rw (fine text short b e) (judged_means t u (refusals text short) m)
 
-pub parsing_means : (text t u : List ℕ) → length text ≤ 65536 → found (ill_formed text) ≡ Nowhere → parsing text t u ≡ reading text t u
+pub parsing_means : (text t u : List ℕ) → length text ≤ 65536 → ill_formed text ≡ None → parsing text t u ≡ reading text t u
 unfolding parsing parsed
 parsing_means text t u short b =
     let m = document_m text short (beginning_at text short t u) in

@@ -4,31 +4,22 @@
 --     parse_unknown         22
 --     parse_judged          what the grammar finds
 --     read_long, read_ill, read_unknown   20, 21 and 22
---     ill_small, unknown_small            their places are small
 use mathlib.Core.Path.{◌≡◌, refl, sym, ap, ◌∙◌}
-use mathlib.Core.List.{List, [], ◌∷◌, ◌++◌, append-nil}
-use mathlib.Core.Option.{Option, some, none}
-use Prim.Native.Nat.{ℕ, ◌*◌, zero, suc, ◌+◌, ◌-◌, ◌≤◌}
+use mathlib.Core.List.{List, ◌++◌, append-nil}
+use Rattle.std.specs.Prelude.{Option, Some, None}
+use Prim.Native.Nat.{ℕ, ◌*◌, ◌-◌, ◌≤◌}
 use native.Mathlib.Omega.{arith}
-use lib.ListN.{length, take, drop, length-drop, length-take, drop_of_length-le}
+use lib.ListN.{length, take, drop, length-drop, drop_of_length-le}
 use borrow.Rule.Slice.PartMut.{put_mid}
 use Rattle.lexer.specs.Outcome.{refused}
-use Rattle.token.specs.Scan.{scan}
-use Rattle.token.specs.declared.Scan.{Scan}
-use Rattle.token.specs.declared.Scan.TheVariants.{Miss, Hit}
-use Rattle.utf8.specs.Utf8.{width, sequences, sequence, ill_from, ill_formed}
-use Rattle.lexer.specs.Cuts.{Cuts, cut_at, cuts_from, cuts, unrecognized}
+use Rattle.lexer.specs.Cuts.{cuts, unrecognized}
 use Rattle.lexer.specs.Check.{checked}
-use Rattle.utf8.specs.Found.{found}
-use Rattle.utf8.specs.declared.Found.TheVariants.{At, Nowhere}
 use Rattle.scan.proofs.Part.{part}
-use Rattle.utf8.proofs.FoundLaws.{found_at, found_none}
 use Rattle.ast.specs.Records.{node_width, cleared}
 use Rattle.steps.specs.declared.state.State.{State}
-use Rattle.steps.specs.declared.state.Parsed.{Parsed}
-use Rattle.steps.specs.declared.state.Parsed.TheVariants.{On, Refused}
+use Rattle.std.specs.Prelude.{Ok, Err}
 use Rattle.parser.specs.Read.{Reading, outcome_by, outcome, answer, left, reading}
-use Rattle.steps.specs.Into.{Out, done, stop, shows, rest_at, loop_in, closes_at}
+use Rattle.steps.specs.Into.{Parsed, Out, done, stop, shows, rest_at, loop_in, closes_at}
 use Rattle.parse_definitions.specs.Into.{definition_in}
 use Rattle.reader.specs.Into.{in_rest, rest_in, between_in, over_in, document_in, beginning, refusing, refusing_at, judged, unscanned, settled, parsing}
 
@@ -44,8 +35,8 @@ lent_tail at t u =
 
 shown_rest : (a : Parsed) (i : ℕ) (t t₁ t₂ u' : List ℕ) → t₂ ≡ take i t ++ t₁ → shows a t₂ u' ≡ in_rest i t (shows a t₁ u')
 unfolding shows in_rest
-shown_rest (On st) i t t₁ t₂ u' e = ap (λ (x : List ℕ). done st x u') e
-shown_rest (Refused n l) i t t₁ t₂ u' e = refl
+shown_rest (Ok st) i t t₁ t₂ u' e = ap (λ (x : List ℕ). done st x u') e
+shown_rest (Err r) i t t₁ t₂ u' e = refl
 
 pub rest_is : (text : List ℕ) (st : State) (at : ℕ) (t t₁ u u' : List ℕ) (a : Parsed) → at ≡ rest_at (st.next * node_width) (length t) →
     shows a t₁ u' ≡ definition_in text st (take (length t - at) (drop at t)) u → shows a (put_mid at (length t - at) t t₁) u' ≡ rest_in text st t u
@@ -75,13 +66,13 @@ module _ (text t u t₁ u₁ : List ℕ) (st : State) (a : Parsed) (from : ℕ) 
       ap (λ (w : Option ℕ). settled w (shows a t₁ u₁) (length text) t u) (sym g ∙ ap (λ (i : ℕ). unrecognized (cuts (drop i text)) i) f)
       ∙ ap (λ (o : Out). settled (unrecognized (cuts (drop (unscanned o) text)) (unscanned o)) o (length text) t u) document
 
-  pub parse_unknown : (p : ℕ) (r : Reading) → found (unrecognized (cuts (drop from text)) from) ≡ At p → r ≡ refusing 22 p 0 t₁ u₁ → r ≡ parsing text t u
+  pub parse_unknown : (p : ℕ) (r : Reading) → unrecognized (cuts (drop from text)) from ≡ Some p → r ≡ refusing 22 p 0 t₁ u₁ → r ≡ parsing text t u
   unfolding settled
-  parse_unknown p r g q = q ∙ refusing_same _ _ _ t u t₁ u₁ y z ∙ parsed (some p) (found_at _ p g)
+  parse_unknown p r g q = q ∙ refusing_same _ _ _ t u t₁ u₁ y z ∙ parsed (Some p) g
 
-  pub parse_judged : (r : Reading) → found (unrecognized (cuts (drop from text)) from) ≡ Nowhere → r ≡ judged (shows a t₁ u₁) (length text) t₁ u₁ → r ≡ parsing text t u
+  pub parse_judged : (r : Reading) → unrecognized (cuts (drop from text)) from ≡ None → r ≡ judged (shows a t₁ u₁) (length text) t₁ u₁ → r ≡ parsing text t u
   unfolding settled
-  parse_judged r g q = q ∙ judged_same _ _ t u t₁ u₁ y z ∙ parsed none (found_none _ g)
+  parse_judged r g q = q ∙ judged_same _ _ t u t₁ u₁ y z ∙ parsed None g
 
 -- 20, 21, 22
 module _ (text t u : List ℕ) where
@@ -96,61 +87,3 @@ module _ (text t u : List ℕ) where
   pub read_unknown : (p : ℕ) → checked text ≡ refused 22 p 0 → refusing 22 p 0 t u ≡ reading text t u
   unfolding reading outcome outcome_by answer left refusing
   read_unknown p e = rw e refl
-
--- ---- the places of 21 and 22 lie in the text
-
-places : Option ℕ → ℕ → ℕ
-places none d = d
-places (some p) d = p
-
-some_inside : (a p n : ℕ) → some a ≡ some p → p ≤ a + suc n
-unfolding places
-some_inside a p n e = let h : a ≡ p = ap (λ (x : Option ℕ). places x 0) e in omega arith
-
-none≢some : {p : ℕ} → ◌≡◌ {A = Option ℕ} none (some p) → ⊥
-none≢some e = let z : ◌≡◌ {A = ℕ} 0 1 = cc in omega arith
-
-here : (k at : ℕ) (go : ℕ → Option ℕ) (p n : ℕ) → ((m : ℕ) → go m ≡ some p → p ≤ at + suc n) → sequence k at go ≡ some p → p ≤ at + suc n
-unfolding sequence
-here zero at go p n h e = some_inside at p n e
-here (suc k) at go p n h e = h k e
-
-cut_at_law : (s : Scan) (t : List ℕ) (go : ℕ → Cuts) (at p n : ℕ) → ((m a q : ℕ) → unrecognized (go m) a ≡ some q → q + m ≤ a + n) →
-    unrecognized (cut_at s t go) at ≡ some p → p + 0 ≤ at + suc n
-unfolding cut_at unrecognized
-cut_at_law Miss t go at p n h e = omega (arith, some_inside at p n e)
-cut_at_law (Hit k m) t go at p n h e = omega (arith, h (m - 1) (at + length (take m t)) p e, length-take m t)
-
-ill_step : (c : ℕ) (w : List ℕ) → ((at n p : ℕ) → ill_from w at n ≡ some p → p ≤ at + length w) →
-    (at n p : ℕ) → ill_from (c ∷ w) at n ≡ some p → p ≤ at + suc (length w)
-unfolding ill_from
-ill_step c w ih at (suc n) p e = omega (arith, ih (suc at) n p e)
-ill_step c w ih at zero p e = go (width sequences (c ∷ w)) e
-  where
-    go : (k : ℕ) → sequence k at (ill_from w (suc at)) ≡ some p → p ≤ at + suc (length w)
-    go k e = here k at (ill_from w (suc at)) p (length w) (λ m f. omega (arith, ih (suc at) m p f)) e
-
-ill_inside : (t : List ℕ) (at n p : ℕ) → ill_from t at n ≡ some p → p ≤ at + length t
-unfolding ill_from
-ill_inside [] at n p e = absurd (none≢some e)
-ill_inside (c ∷ w) at n p e = ill_step c w (ill_inside w) at n p e
-
-cut_step : (c : ℕ) (w : List ℕ) → ((n at p : ℕ) → unrecognized (cuts_from w n) at ≡ some p → p + n ≤ at + length w) →
-    (n at p : ℕ) → unrecognized (cuts_from (c ∷ w) n) at ≡ some p → p + n ≤ at + suc (length w)
-unfolding cuts_from
-cut_step c w ih (suc n) at p e = omega (arith, ih n at p e)
-cut_step c w ih zero at p e = cut_at_law (scan (c ∷ w)) (c ∷ w) (cuts_from w) at p (length w) (λ n a q f. ih n a q f) e
-
-cut_inside : (t : List ℕ) (n at p : ℕ) → unrecognized (cuts_from t n) at ≡ some p → p + n ≤ at + length t
-unfolding cuts_from unrecognized
-cut_inside [] n at p e = absurd (none≢some e)
-cut_inside (c ∷ w) n at p e = cut_step c w (cut_inside w) n at p e
-
--- so they are numbers of 32 bits
-pub ill_small : (t : List ℕ) (p : ℕ) → found (ill_formed t) ≡ At p → p ≤ length t
-unfolding ill_formed
-ill_small t p e = omega (arith, ill_inside t 0 0 p (found_at _ p e))
-
-pub unknown_small : (t : List ℕ) (from p : ℕ) → found (unrecognized (cuts (drop from t)) from) ≡ At p → p ≤ from + (length t - from)
-unfolding cuts
-unknown_small t from p e = omega (arith, cut_inside (drop from t) 0 from p (found_at _ p e), length-drop from t)

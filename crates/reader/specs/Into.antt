@@ -1,7 +1,7 @@
 -- What the code does to the state and to both tables, of a document and of a whole text. Contracts inside this crate cite it, and proofs/Meant shows that it
 -- means parser/specs/Read; nothing outside the crate has to believe it.
 use Rattle.std.specs.Prelude.{true, false, cond, List, [], ◌∷◌, ◌++◌, ℕ, ◌*◌, ◌-◌, eqb, ltb, length, take, drop}
-use Rattle.std.proofs.Math.Option.{Option, some, none}
+use Rattle.std.specs.Prelude.{Option, Some, None}
 use Rattle.lexer.specs.declared.location.LOC.{LOC}
 use Rattle.lexer.specs.Error.{UnrecognizedToken, UnexpectedEOF, NoToken, NodesFull, CommentsFull}
 use Rattle.lexer.specs.Outcome as O
@@ -67,8 +67,8 @@ unscanned (stop e l) = 0
 
 -- 22 comes before what the grammar finds
 unfoldable pub settled : Option ℕ → Out → ℕ → List ℕ → List ℕ → Reading
-settled (some p) o len t u = refusing NoToken p 0 t u
-settled none o len t u = judged o len t u
+settled (Some p) o len t u = refusing NoToken p 0 t u
+settled None o len t u = judged o len t u
 
 unfoldable pub parsing : List ℕ → List ℕ → List ℕ → Reading
 parsing text t u =

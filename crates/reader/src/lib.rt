@@ -3,32 +3,26 @@
 
 ghost use Rattle.std.specs.Prelude.{◌≡◌, List, ℕ, ◌≤◌, length};
 ghost use Rattle.lexer.specs.Limit.{limit};
+ghost use Rattle.lexer.specs.Refusal.{number_of};
 ghost use Rattle.parser.specs.Read.{reading, told};
 ghost use Rattle.steps.specs.Packed.{unpacked_loc};
 ghost use Rattle.steps.specs.Into.{Keeps, Lent, Reads, Still, shows};
 ghost use Rattle.reader.specs.Into.{rest_in, over_in, between_in, document_in, beginning, refusing, ended, refusing_at, fits, judged, unscanned, parsing};
 
-use lexer::error;
+use lexer::error::{ErrorKind, Refusal};
 use lexer::location::Lexer;
-use parser::Answer;
+use parser::{Answer, Counts};
 use steps::packed::Range;
-use steps::state::{NONE, Parsed, State};
+use steps::state::{NONE, Parsed, Raised, State};
 use steps::{packed, table};
-use utf8::Found;
 
 // The definition, its records in the unused rest of the table.
-fn parse_in_rest(
-    lut: &[u8; 768],
-    text: &[u8],
-    st: State,
-    nodes: &mut [u32],
-    comments: &mut [u32],
-) -> Parsed
-    requires { Lent lut.now text.now }
+fn parse_in_rest(text: &[u8], st: State, nodes: &mut [u32], comments: &mut [u32]) -> Parsed
+    requires { Lent text.now }
     ensures { Reads (rest_in text.now) st result nodes.old nodes.new comments.old comments.new }
 {
     let at = table::rest_at(st.next as usize * ast::NODE_WIDTH, nodes.len());
-    parse_definitions::parse_definition(lut, text, st, &mut nodes[at..], comments)
+    parse_definitions::parse_definition(text, st, &mut nodes[at..], comments)
 }
 
 // The end of the text: refused where the last token ends at offset 1.
@@ -37,50 +31,40 @@ fn over(st: State) -> Parsed
 {
     let last = st.last;
     if packed::index_of(last.end) == 1 {
-        return st.refuse(error::UNEXPECTED_EOF);
+        return st.refuse(ErrorKind::UnexpectedEOF);
     }
-    Parsed::On(st)
+    Ok(st)
 }
 
 // Between definitions: separators, comments, separators again.
-fn between(lut: &[u8; 768], text: &[u8], st: State, comments: &mut [u32]) -> State
-    requires { Lent lut.now text.now }
+fn between(text: &[u8], st: State, comments: &mut [u32]) -> State
+    requires { Lent text.now }
     ensures { Keeps (between_in text.now) st result comments.old comments.new }
 {
-    let over = st.skip(lut, text, true);
-    let found = over.skip_comments(lut, text, false, comments);
-    found.skip(lut, text, true)
+    let over = st.skip(text, true);
+    let found = over.skip_comments(text, false, comments);
+    found.skip(text, true)
 }
 
 // parse: all definitions.
 // Document ::= (Gap Definition)* Gap; Gap ::= Separator* Comment* Separator*
-fn parse_document(
-    lut: &[u8; 768],
-    text: &[u8],
-    st: State,
-    nodes: &mut [u32],
-    comments: &mut [u32],
-) -> Parsed
-    requires { Lent lut.now text.now }
+fn parse_document(text: &[u8], st: State, nodes: &mut [u32], comments: &mut [u32]) -> Parsed
+    requires { Lent text.now }
     ensures { Reads (document_in text.now) st result nodes.old nodes.new comments.old comments.new }
 {
     let mut state = st;
     loop {
-        let found = between(lut, text, state, comments);
+        let found = between(text, state, comments);
         if found.kind == NONE {
             return over(found);
         }
-        let read = parse_in_rest(lut, text, found, nodes, comments);
-        let Parsed::On(behind) = read else {
-            return read;
-        };
-        state = behind;
+        state = parse_in_rest(text, found, nodes, comments)?;
     }
 }
 
 // The state at the start of a text.
-fn begin(lut: &[u8; 768], text: &[u8]) -> State
-    requires { Lent lut.now text.now }
+fn begin(text: &[u8]) -> State
+    requires { Lent text.now }
     ensures { result ≡ beginning text.now }
 {
     let lexer = Lexer::new();
@@ -96,48 +80,50 @@ fn begin(lut: &[u8; 768], text: &[u8]) -> State
         owned: 0,
         waiting: 0,
     };
-    let found = steps::look(lut, text, start);
+    let found = steps::look(text, start);
     st.ahead(found)
 }
 
-fn refuse(number: u32, place: u32, length: u32, nodes: &mut [u32], comments: &mut [u32]) -> Answer
-    ensures { told result nodes.new comments.new ≡ refusing number place length nodes.old comments.old }
+fn refuse(refusal: Refusal, nodes: &mut [u32], comments: &mut [u32]) -> Answer
+    ensures { told result nodes.new comments.new ≡ refusing (number_of refusal.kind) refusal.place refusal.length nodes.old comments.old }
 {
     table::clear(nodes, 0);
     table::clear(comments, 0);
-    Answer::Refused {
-        number,
-        place,
-        length,
-    }
+    Err(refusal)
 }
 
 // The end rule: with no token left, 3 if the last token ends at the text's length, else 1.
-fn end_rule(number: u32, end: u32, len: usize) -> u32
-    ensures { result ≡ ended number end len }
+fn end_rule(kind: ErrorKind, end: u32, len: usize) -> ErrorKind
+    ensures { number_of result ≡ ended (number_of kind) end len }
 {
-    if number != error::UNEXPECTED_EOF {
-        return number;
-    }
+    let ErrorKind::UnexpectedEOF = kind else {
+        return kind;
+    };
     if end as usize == len {
-        error::UNEXPECTED_EOF
+        ErrorKind::UnexpectedEOF
     } else {
-        error::UNRECOGNIZED_TOKEN
+        ErrorKind::UnrecognizedToken
     }
 }
 
 // A refusal of the grammar.
-fn refuse_at(number: u32, loc: Range, len: usize, nodes: &mut [u32], comments: &mut [u32]) -> Answer
-    ensures { told result nodes.new comments.new ≡ refusing_at number (unpacked_loc loc) len nodes.old comments.old }
+fn refuse_at(raised: Raised, len: usize, nodes: &mut [u32], comments: &mut [u32]) -> Answer
+    ensures { told result nodes.new comments.new ≡ refusing_at (number_of raised.kind) (unpacked_loc raised.loc) len nodes.old comments.old }
 {
-    let start = packed::index_of(loc.start);
+    let loc = raised.loc;
+    let place = packed::index_of(loc.start);
     let end = packed::index_of(loc.end);
-    let told = end_rule(number, end, len);
-    let mut length = 0;
-    if start < end {
-        length = end - start;
-    }
-    refuse(told, start, length, nodes, comments)
+    let kind = end_rule(raised.kind, end, len);
+    let length = end.saturating_sub(place);
+    refuse(
+        Refusal {
+            kind,
+            place,
+            length,
+        },
+        nodes,
+        comments,
+    )
 }
 
 // What was read, if the tables hold it: else 24, then 25.
@@ -147,17 +133,17 @@ fn fit(state: State, nodes: &mut [u32], comments: &mut [u32]) -> Answer
     let next = state.next;
     let owned = state.owned;
     if nodes.len() / ast::NODE_WIDTH < next as usize {
-        return refuse(error::NODES_FULL, 0, 0, nodes, comments);
+        return refuse(Refusal::at(ErrorKind::NodesFull, 0), nodes, comments);
     }
     if comments.len() / ast::COMMENT_WIDTH < owned as usize {
-        return refuse(error::COMMENTS_FULL, 0, 0, nodes, comments);
+        return refuse(Refusal::at(ErrorKind::CommentsFull, 0), nodes, comments);
     }
     table::clear(nodes, next as usize * ast::NODE_WIDTH);
     table::clear(comments, owned as usize * ast::COMMENT_WIDTH);
-    Answer::Accepted {
+    Ok(Counts {
         nodes: next,
         comments: owned,
-    }
+    })
 }
 
 // From where on tokens are still to be looked for: behind what was read; from the start where the grammar refuses.
@@ -165,8 +151,8 @@ fn unscanned(parsed: Parsed) -> usize
     ensures { (result ≤ 4294967295) × ((t u : List ℕ) → result ≡ unscanned (shows parsed t u)) }
 {
     match parsed {
-        Parsed::Refused(_, _) => 0,
-        Parsed::On(state) => {
+        Err(_) => 0,
+        Ok(state) => {
             let loc = state.loc;
             packed::index_of(loc.end) as usize
         }
@@ -178,8 +164,8 @@ fn judge(parsed: Parsed, len: usize, nodes: &mut [u32], comments: &mut [u32]) ->
     ensures { told result nodes.new comments.new ≡ judged (shows parsed nodes.old comments.old) len nodes.old comments.old }
 {
     match parsed {
-        Parsed::Refused(number, loc) => refuse_at(number, loc, len, nodes, comments),
-        Parsed::On(state) => fit(state, nodes, comments),
+        Err(raised) => refuse_at(raised, len, nodes, comments),
+        Ok(state) => fit(state, nodes, comments),
     }
 }
 
@@ -188,12 +174,11 @@ fn parse(text: &[u8], nodes: &mut [u32], comments: &mut [u32]) -> Answer
     requires { length text.now ≤ limit }
     ensures { told result nodes.new comments.new ≡ parsing text.now nodes.old comments.old }
 {
-    let lut = lexer::table::LUT;
-    let st = begin(&lut, text);
-    let parsed = parse_document(&lut, text, st, nodes, comments);
+    let st = begin(text);
+    let parsed = parse_document(text, st, nodes, comments);
     let from = unscanned(parsed);
-    if let Found::At(at) = lexer::unrecognized(&lut, text, from) {
-        return refuse(error::NO_TOKEN, at as u32, 0, nodes, comments);
+    if let Some(at) = lexer::unrecognized(text, from) {
+        return refuse(Refusal::at(ErrorKind::NoToken, at as u32), nodes, comments);
     }
     judge(parsed, text.len(), nodes, comments)
 }
@@ -203,10 +188,10 @@ pub fn read(text: &[u8], nodes: &mut [u32], comments: &mut [u32]) -> Answer
     ensures { told result nodes.new comments.new ≡ reading text.now nodes.old comments.old }
 {
     if lexer::LIMIT < text.len() {
-        return refuse(error::TEXT_TOO_LONG, 0, 0, nodes, comments);
+        return refuse(Refusal::at(ErrorKind::TextTooLong, 0), nodes, comments);
     }
-    if let Found::At(at) = utf8::ill_formed(text) {
-        return refuse(error::NOT_UTF8, at as u32, 0, nodes, comments);
+    if let Some(at) = utf8::ill_formed(text) {
+        return refuse(Refusal::at(ErrorKind::NotUtf8, at as u32), nodes, comments);
     }
     parse(text, nodes, comments)
 }

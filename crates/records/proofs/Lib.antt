@@ -3,3 +3,4 @@ pub mod ShownLaws
 pub mod SpelledLaws
 pub mod EachLaws
 pub mod Reading
+pub mod KindTests

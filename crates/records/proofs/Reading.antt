@@ -14,9 +14,11 @@ use Rattle.ast.specs.Lists.{All}
 use Rattle.ast.specs.Ast.{Definition}
 use Rattle.ast.specs.Records.{comment_width, node_width, no_parent, sizes, forest, node_rows, notes, room, filled, cleared}
 use Rattle.ast.proofs.Counts.{node_rows_size, node_rows_wide, notes_wide}
-use Rattle.parser.specs.declared.Answer.{Answer}
-use Rattle.parser.specs.declared.Answer.TheVariants.{Accepted, Refused}
-use Rattle.parser.specs.Read.{outcome, fitted, answer, left, rows_by, said, Reading, told, reading}
+use Rattle.std.specs.Prelude.{Ok, Err}
+use Rattle.lexer.specs.Refusal.{number_of, said_by}
+use Rattle.lexer.specs.declared.error.Refusal.{Refusal}
+use Rattle.parser.specs.declared.Counts.{Counts}
+use Rattle.parser.specs.Read.{Answer, outcome, fitted, answer, left, rows_by, said, Reading, told, reading}
 use Rattle.parser.proofs.Lexemes.{Stands, tokens_stand}
 use Rattle.parser.proofs.Each.{EachDefinition}
 use Rattle.parser.proofs.Walk.{document_reads}
@@ -55,15 +57,6 @@ pub record Accepts (t ns cs : List ℕ) (n c : ℕ) (ns' cs' : List ℕ) : Type 
   pub broad : length cs' ≡ length cs
   pub file : File t ns' n ds
 
--- the numbers of an accepted outcome
-numbers_in : Outcome (List ℕ) → List ℕ
-numbers_in (accepted ns) = ns
-numbers_in (refused e p n) = []
-
-is_refused : Outcome (List ℕ) → ℕ
-is_refused (accepted ns) = 0
-is_refused (refused e p n) = 1
-
 module _ (t ns cs : List ℕ) (a : Answer) (ns' cs' : List ℕ) (r : told a ns' cs' ≡ reading t ns cs) where
   saying : (x : Outcome (List ℕ)) → said a ≡ x → answer (outcome t) ns cs ≡ x
   unfolding reading
@@ -77,34 +70,35 @@ module _ (t ns cs : List ℕ) (a : Answer) (ns' cs' : List ℕ) (r : told a ns' 
   unfolding reading
   comments_left_law x e = ap (λ (z : Reading). z.comments) r ∙ ap (λ (z : Outcome (List ℕ)). left z (rows_by notes (outcome t)) cs) (saying x e)
 
-  pub read_refused : {e p n : ℕ} → a ≡ Refused e p n → Refuses t ns cs e p n ns' cs'
-  unfolding said left
-  read_refused {e} {p} {n} h =
-      let s : said a ≡ refused e p n = ap said h in
-      record { answers = saying (refused e p n) s; nodes = nodes_left (refused e p n) s; comments = comments_left_law (refused e p n) s }
+  pub read_refused : {f : Refusal} → a ≡ Err f → Refuses t ns cs (number_of f.kind) f.place f.length ns' cs'
+  unfolding said_by left
+  read_refused {f} h =
+      let x : Outcome (List ℕ) = refused (number_of f.kind) f.place f.length in
+      let s : said a ≡ x = ap said h in
+      record { answers = saying x s; nodes = nodes_left x s; comments = comments_left_law x s }
 
   -- what the tables had room for
   fitting : (ds : List Definition) {n c : ℕ} → fitted ds ns cs ≡ accepted (n ∷ c ∷ []) →
       (n ≡ length (node_rows ds)) × (ltb (room node_width ns) (length (node_rows ds)) ≡ false) × (ltb (room comment_width cs) (length (notes ds)) ≡ false)
-  unfolding fitted is_refused numbers_in
+  unfolding fitted
   fitting ds {n} {c} e = go (ltb (room node_width ns) (length (node_rows ds))) (ltb (room comment_width cs) (length (notes ds))) refl refl e
     where
       go : (x y : Bool) → ltb (room node_width ns) (length (node_rows ds)) ≡ x → ltb (room comment_width cs) (length (notes ds)) ≡ y →
           cond x (refused 24 0 0) (cond y (refused 25 0 0) (accepted (length (node_rows ds) ∷ length (notes ds) ∷ []))) ≡ accepted (n ∷ c ∷ []) →
           (n ≡ length (node_rows ds)) × (ltb (room node_width ns) (length (node_rows ds)) ≡ false) × (ltb (room comment_width cs) (length (notes ds)) ≡ false)
-      go true y h k e = let z : ◌≡◌ {A = ℕ} 1 0 = ap is_refused e in absurd (omega (arith, z))
-      go false true h k e = let z : ◌≡◌ {A = ℕ} 1 0 = ap is_refused e in absurd (omega (arith, z))
+      go true y h k e = absurd cc
+      go false true h k e = absurd cc
       go false false h k e = (cc, h, k)
 
-  pub read_accepted : {n c : ℕ} → a ≡ Accepted n c → Accepts t ns cs n c ns' cs'
-  unfolding said left answer rows_by is_refused node_width comment_width
-  read_accepted {n} {c} h = go (outcome t) refl (saying (accepted (n ∷ c ∷ [])) s) (nodes_left (accepted (n ∷ c ∷ [])) s) (comments_left_law (accepted (n ∷ c ∷ [])) s)
+  pub read_accepted : {k : Counts} → a ≡ Ok k → Accepts t ns cs k.nodes k.comments ns' cs'
+  unfolding said_by left answer rows_by node_width comment_width
+  read_accepted {k = k₀} h = go (outcome t) refl (saying (accepted (k₀.nodes ∷ k₀.comments ∷ [])) s) (nodes_left (accepted (k₀.nodes ∷ k₀.comments ∷ [])) s) (comments_left_law (accepted (k₀.nodes ∷ k₀.comments ∷ [])) s)
     where
-      s : said a ≡ accepted (n ∷ c ∷ [])
+      s : said a ≡ accepted (k₀.nodes ∷ k₀.comments ∷ [])
       s = ap said h
 
-      go : (o : Outcome (List Definition)) → outcome t ≡ o → answer o ns cs ≡ accepted (n ∷ c ∷ []) → ns' ≡ filled (rows_by node_rows o) ns → cs' ≡ filled (rows_by notes o) cs →
-          Accepts t ns cs n c ns' cs'
+      go : (o : Outcome (List Definition)) → outcome t ≡ o → answer o ns cs ≡ accepted (k₀.nodes ∷ k₀.comments ∷ []) → ns' ≡ filled (rows_by node_rows o) ns → cs' ≡ filled (rows_by notes o) cs →
+          Accepts t ns cs k₀.nodes k₀.comments ns' cs'
       go (accepted ds) e f g k =
           let q = fitting ds f in
           record {
@@ -117,4 +111,4 @@ module _ (t ns cs : List ℕ) (a : Answer) (ns' cs' : List ℕ) (r : told a ns' 
             broad = rw k (filled_long (omega arith) (notes_wide ds) cs q.2);
             file = rw (g, q.0) (reading_file t ds e ns);
           }
-      go (refused x y z) e f g k = let z : ◌≡◌ {A = ℕ} 1 0 = ap is_refused f in absurd (omega (arith, z))
+      go (refused x y z) e f g k = absurd cc

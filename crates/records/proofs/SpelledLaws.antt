@@ -3,7 +3,7 @@
 use mathlib.Core.Path.{◌≡◌, refl, sym, ◌∙◌}
 use mathlib.Core.Bool.{false, cond, false≢true}
 use mathlib.Core.List.{List, []}
-use mathlib.Core.Option.{Option}
+use Rattle.std.specs.Prelude.{Option}
 use Prim.Native.Nat.{ℕ}
 use Rattle.token.specs.Code.{is}
 use Rattle.token.specs.declared.Token.{Token}

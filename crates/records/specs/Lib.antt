@@ -1,2 +1,3 @@
 pub mod Table
 pub mod Each
+pub mod Siblings

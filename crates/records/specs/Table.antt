@@ -6,7 +6,7 @@
 --     part                   the bytes of a place
 --     Spelled text ts        each token of the trees ts has the bytes of its place
 --     File                   a text, the table of its definitions, and how many records that has
-use Rattle.std.specs.Prelude.{◌≡◌, Bool, true, cond, ◌||◌, ◌&&◌, List, [], ◌∷◌, ◌++◌, ℕ, zero, suc, ◌+◌, ◌*◌, ◌-◌, ◌≤◌, ltb, leb, length, take, drop, get_or}
+use Rattle.std.specs.Prelude.{◌≡◌, Bool, true, cond, ◌||◌, ◌&&◌, List, [], ◌∷◌, ◌++◌, ℕ, zero, suc, ◌+◌, ◌*◌, ◌-◌, ◌≤◌, ltb, leb, length, take, drop, get_or, Option, Some, None}
 use Rattle.lexer.specs.declared.location.LOC.{LOC}
 use Rattle.lexer.specs.Tokens.{Lexeme}
 use Rattle.ast.specs.Ast.{Definition}
@@ -21,6 +21,10 @@ use Rattle.ast.specs.Records.{node_width, no_parent, size, sizes, rows_of, room,
 -- in a table of records of w numbers; 0 where the table does not hold it
 unfoldable pub number_at : ℕ → List ℕ → ℕ → ℕ → ℕ
 number_at w t r k = get_or t (r * w + k) 0
+
+-- the same of a record that is below so many
+unfoldable pub held_at : ℕ → List ℕ → ℕ → ℕ → Option ℕ
+held_at w t r k = cond (ltb r (room w t)) (Some (number_at w t r k)) None
 
 -- a node's kind, 0 behind the last of so many records
 unfoldable pub kind_at : List ℕ → ℕ → ℕ → ℕ

@@ -3,66 +3,37 @@
 
 ghost use Rattle.std.specs.Prelude.{◌≡◌, ◌≤◌, ◌<◌, get_or};
 ghost use Rattle.ast.specs.Column as C;
+ghost use Rattle.ast.specs.KindNumber.{kind_of};
 ghost use Rattle.ast.specs.Records.{comment_width, node_width, room};
-ghost use Rattle.records.specs.Table.{number_at, kind_at, parent_at, flags_at, past_at, part};
+ghost use Rattle.records.specs.Table.{number_at, held_at, kind_at, parent_at, flags_at, start_at, end_at, past_at, siblings, children_of, part};
 
-use ast::{COMMENT_WIDTH, NO_PARENT, NODE_WIDTH, column};
+use ast::kind::Kind;
+use ast::{COMMENT_WIDTH, NO_PARENT, NODE_WIDTH, bump, column};
 
-// A number of a table; 0 where it does not hold it.
+// A number of a table; 0 where the table does not hold it.
 fn or_zero(table: &[u32], at: usize) -> u32
     ensures { result ≡ get_or table.now at 0 }
 {
-    if at < table.len() { table[at] } else { 0 }
+    table.get(at).copied().unwrap_or(0)
 }
 
-// The kind of a node record; 0 behind the last one.
-pub fn kind(nodes: &[u32], n: u32) -> u32
-    ensures { result ≡ kind_at nodes.now (room node_width nodes.now) n }
+// A number of record n, in a table of records of so many numbers that holds it whole.
+#[tactic(auto, using(crate::proofs::RecordLaws::holds))]
+fn held(table: &[u32], width: usize, n: u32, column: usize) -> Option<u32>
+    requires { (column < width) × (width ≤ node_width) }
+    ensures { result ≡ held_at width table.now n column }
 {
-    let at = n as usize * NODE_WIDTH;
-    if at + NODE_WIDTH <= nodes.len() {
-        nodes[at]
-    } else {
-        0
-    }
-}
-
-// The parent of a node record; none behind the last one.
-pub fn parent(nodes: &[u32], n: u32) -> u32
-    ensures { result ≡ parent_at node_width nodes.now (room node_width nodes.now) n }
-{
-    let at = n as usize * NODE_WIDTH;
-    if at + NODE_WIDTH <= nodes.len() {
-        nodes[at + column::PARENT]
-    } else {
-        NO_PARENT
-    }
+    let at = n as usize * width;
+    let record = table.get(at..at + width)?;
+    Some(record[column])
 }
 
 // The owner of a comment record; none behind the last one.
+#[tactic(auto, using(crate::proofs::RecordLaws::held_or), unfolding(ast::specs::Records::comment_width, ast::specs::Records::node_width, ast::specs::Records::no_parent, crate::specs::Table::parent_at))]
 pub fn owner(comments: &[u32], n: u32) -> u32
     ensures { result ≡ parent_at comment_width comments.now (room comment_width comments.now) n }
 {
-    let at = n as usize * COMMENT_WIDTH;
-    if at + COMMENT_WIDTH <= comments.len() {
-        comments[at + column::PARENT]
-    } else {
-        NO_PARENT
-    }
-}
-
-// The flags of a node record.
-pub fn flags(nodes: &[u32], n: u32) -> u32
-    ensures { result ≡ flags_at nodes.now n }
-{
-    or_zero(nodes, n as usize * NODE_WIDTH + column::FLAGS)
-}
-
-// The record number just past a node's last descendant: the next sibling's, if there is one.
-pub fn past(nodes: &[u32], n: u32) -> u32
-    ensures { result ≡ past_at nodes.now n }
-{
-    or_zero(nodes, n as usize * NODE_WIDTH + column::PAST)
+    held(comments, COMMENT_WIDTH, n, column::PARENT).unwrap_or(NO_PARENT)
 }
 
 // A part of the text, from an index to an index.
@@ -72,35 +43,127 @@ pub struct Part {
     pub end: u32,
 }
 
+impl Part {
+    // Its bytes; none where the text has no such part.
+    #[tactic(auto, unfolding(crate::specs::Table::part))]
+    pub fn bytes(self, text: &[u8]) -> &[u8]
+        ensures { result.now ≡ part text.now self.start self.end }
+    {
+        text.get(self.start as usize..self.end as usize)
+            .unwrap_or_default()
+    }
+}
+
 // The part that record n tells of, in a table of records of so many numbers; 0 for a number that the table does not hold.
+#[tactic(auto, using(crate::proofs::RecordLaws::starts), unfolding(ast::specs::Records::node_width, crate::specs::Table::number_at))]
 pub fn part_at(table: &[u32], width: usize, n: u32) -> Part
     requires { (C.End < width) × (width ≤ node_width) }
     ensures { (result.start ≡ number_at width table.now n C.Start) × (result.end ≡ number_at width table.now n C.End) }
 {
     let at = n as usize * width;
-    if table.len() < at + width {
-        return Part {
-            start: or_zero(table, at + column::START),
-            end: or_zero(table, at + column::END),
-        };
-    }
     Part {
-        start: table[at + column::START],
-        end: table[at + column::END],
+        start: or_zero(table, at + column::START),
+        end: or_zero(table, at + column::END),
     }
 }
 
-// The bytes of a part; none where the text has no such part.
-pub fn bytes(text: &[u8], start: u32, end: u32) -> &[u8]
-    ensures { result.now ≡ part text.now start end }
-{
-    let first = start as usize;
-    let last = end as usize;
-    if text.len() < last {
-        return &text[0..0];
+// A node table, by record number.
+#[derive(Clone, Copy)]
+pub struct Nodes<'a>(pub &'a [u32]);
+
+impl<'a> Nodes<'a> {
+    ghost use Rattle.records.specs.Siblings.{left};
+
+    // The kind of a record; none behind the last one.
+    #[tactic(auto, using(crate::proofs::RecordLaws::kinds), unfolding(ast::specs::Records::node_width))]
+    pub fn kind(self, n: u32) -> Option<Kind>
+        ensures { result ≡ kind_of (kind_at self.entry.0.now (room node_width self.entry.0.now) n) }
+    {
+        let number = held(self.0, NODE_WIDTH, n, 0)?;
+        Kind::try_from(number).ok()
     }
-    if last < first {
-        return &text[0..0];
+
+    // The parent of a record; none behind the last one.
+    #[tactic(auto, using(crate::proofs::RecordLaws::held_or), unfolding(ast::specs::Records::node_width, ast::specs::Records::no_parent, crate::specs::Table::parent_at))]
+    pub fn parent(self, n: u32) -> u32
+        ensures { result ≡ parent_at node_width self.entry.0.now (room node_width self.entry.0.now) n }
+    {
+        held(self.0, NODE_WIDTH, n, column::PARENT).unwrap_or(NO_PARENT)
     }
-    &text[first..last]
+
+    // The flags of a record.
+    #[tactic(auto, unfolding(ast::specs::Records::node_width, crate::specs::Table::number_at))]
+    pub fn flags(self, n: u32) -> u32
+        ensures { result ≡ flags_at self.entry.0.now n }
+    {
+        or_zero(self.0, n as usize * NODE_WIDTH + column::FLAGS)
+    }
+
+    // The record number just past a node's last descendant: the next sibling's, if there is one.
+    #[tactic(auto, unfolding(ast::specs::Records::node_width, crate::specs::Table::number_at))]
+    pub fn past(self, n: u32) -> u32
+        ensures { result ≡ past_at self.entry.0.now n }
+    {
+        or_zero(self.0, n as usize * NODE_WIDTH + column::PAST)
+    }
+
+    // The part of the text that a record tells of.
+    #[tactic(auto, unfolding(ast::specs::Records::node_width))]
+    pub fn part(self, n: u32) -> Part
+        ensures { (result.start ≡ start_at self.entry.0.now n) × (result.end ≡ end_at self.entry.0.now n) }
+    {
+        part_at(self.0, NODE_WIDTH, n)
+    }
+
+    // The records from one on, each just past the last one's descendants, as long as they are below the end.
+    #[tactic(auto, unfolding(crate::specs::Siblings::left, crate::specs::Table::siblings))]
+    pub fn siblings(self, first: u32, end: u32) -> Siblings<'a>
+        ensures { left result ≡ siblings self.entry.0.now end first }
+    {
+        Siblings {
+            nodes: self,
+            at: first,
+            end,
+            turns: end,
+        }
+    }
+
+    // The children of a record.
+    #[tactic(auto, unfolding(crate::specs::Table::children_of))]
+    pub fn children(self, n: u32) -> Siblings<'a>
+        ensures { left result ≡ children_of self.entry.0.now n }
+    {
+        self.siblings(bump(n), self.past(n))
+    }
+}
+
+// Records one after another, and at most so many.
+#[derive(Drop)]
+pub struct Siblings<'a> {
+    nodes: Nodes<'a>,
+    at: u32,
+    end: u32,
+    turns: u32,
+}
+
+impl Iterator for Siblings<'_> {
+    ghost use Rattle.std.specs.Iterator.{YieldsFirst, item_count};
+    ghost use Rattle.records.specs.Siblings.{left};
+
+    type Item = u32;
+
+    ghost next_gives = { YieldsFirst left };
+
+    ghost remaining = { item_count left };
+
+    #[tactic(auto, using(crate::proofs::RecordLaws::lefts), unfolding(crate::specs::Siblings::left))]
+    fn next(&mut self) -> Option<u32> {
+        if self.turns == 0 || self.end <= self.at {
+            return None;
+        }
+        let n = self.at;
+        self.at = self.nodes.past(n);
+        self.turns -= 1;
+        Some(n)
+    }
 }

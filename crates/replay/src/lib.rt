@@ -7,15 +7,15 @@
 //     three prints, each its length and its bytes
 #![tactic(auto)]
 
-ghost use Rattle.std.specs.Prelude.{◌≡◌, true, cond, not, ◌+◌, ◌≤◌, length};
+ghost use Rattle.std.specs.Prelude.{◌≡◌, true, cond, not, ◌+◌, ◌≤◌, length, replicate};
 ghost use Rattle.std.specs.Io.{ReadsAtMost};
 ghost use Rattle.replay.specs.List.{number_at, ZeroFrom};
 ghost use Rattle.ast.specs.Largest.{bump};
 ghost use Rattle.lexer.specs.Location.{has_pair};
 ghost use Rattle.replay.specs.Pair.{pair_at};
 
-use std::io;
 use std::io::{Stdin, Stdout};
+use std::{fmt, io};
 
 // Longer than each text and each print of the list.
 pub const SPACE: usize = 66560;
@@ -25,6 +25,60 @@ pub const NODES: usize = 10005;
 
 pub const COMMENTS: usize = 1804;
 
+// What a program finds in the texts of the list, and writes behind their count.
+pub trait Findings: Copy + Default + fmt::Display {
+    // Whether a text more differs than before.
+    fn has_more(&self, before: &Self) -> bool;
+}
+
+// Goes through all texts of the list; writes the index of each that differs, then what was found.
+// `compare` is given the text, its index and what was found before; the input goes on with the text's answers.
+pub fn replay<T: Findings, F: Fn(Stdin, &[u8], u32, T) -> io::Result<T>>(
+    input: Stdin,
+    out: Stdout,
+    compare: F,
+) -> io::Result<()>
+    requires { F.IsAlwaysCallable compare }
+{
+    let texts = read_number(input)?;
+    let mut space: [u8; SPACE] = [0; SPACE];
+    let mut found = T::default();
+    for index in 0..texts {
+        let length = read_part(input, &mut space)?;
+        let now = compare(input, &space[..length], index, found)?;
+        if now.has_more(&found) {
+            println!(out; "text {index} differs")?;
+        }
+        found = now;
+    }
+    println!(out; "{texts} texts, {found}")
+}
+
+// Both tables of a text, lent full of sevens, so that what a call leaves as it was is seen.
+#[derive(Clone, Copy, PartialEq, Eq)]
+pub struct Tables {
+    pub nodes: [u32; NODES],
+    pub comments: [u32; COMMENTS],
+}
+
+impl Tables {
+    pub fn new() -> Tables
+        ensures { (result.nodes ≡ replicate 10005 7) × (result.comments ≡ replicate 1804 7) }
+    {
+        Tables {
+            nodes: [7; NODES],
+            comments: [7; COMMENTS],
+        }
+    }
+
+    // Whether both are 0 behind so many numbers.
+    pub fn zero_from(&self, nodes: usize, comments: usize) -> bool
+        ensures { (result ≡ true → ZeroFrom self.now.nodes nodes × ZeroFrom self.now.comments comments) × (ZeroFrom self.now.nodes nodes × ZeroFrom self.now.comments comments → result ≡ true) }
+    {
+        zero_from(&self.nodes, nodes) && zero_from(&self.comments, comments)
+    }
+}
+
 // A count, and one more of it if so.
 fn one_more_if(so: bool, n: u32) -> u32
     ensures { result ≡ cond so (bump n) n }
@@ -33,7 +87,7 @@ fn one_more_if(so: bool, n: u32) -> u32
 }
 
 // What was found in the texts so far: how many differ, and how many have CR LF.
-#[derive(Clone, Copy)]
+#[derive(Clone, Copy, Default)]
 pub struct Tally {
     pub differing: u32,
     pub paired: u32,
@@ -43,45 +97,47 @@ impl Tally {
     pub fn new() -> Tally
         ensures { (result.differing ≡ 0) × (result.paired ≡ 0) }
     {
-        Tally {
-            differing: 0,
-            paired: 0,
-        }
+        Tally::default()
     }
 
     // With a text more, which is as the list has it or differs, and has CR LF or not.
     pub fn with(self, same: bool, paired: bool) -> Tally
         ensures { (result.differing ≡ cond (not same) (bump self.differing) self.differing) × (result.paired ≡ cond paired (bump self.paired) self.paired) }
     {
-        let differing = one_more_if(!same, self.differing);
-        let paired = one_more_if(paired, self.paired);
-        Tally { differing, paired }
+        Tally {
+            differing: one_more_if(!same, self.differing),
+            paired: one_more_if(paired, self.paired),
+        }
     }
 }
 
-fn wide(byte: u8) -> u32
-    ensures { (result ≡ byte) × (result ≤ 255) }
-{
-    byte as u32
+impl Findings for Tally {
+    fn has_more(&self, before: &Tally) -> bool {
+        self.differing != before.differing
+    }
+}
+
+impl fmt::Display for Tally {
+    fn fmt<W: fmt::Write>(&self, f: &mut fmt::Formatter<W>) -> fmt::Result {
+        let Tally { differing, paired } = *self;
+        write!(f, "{differing} differ; {paired} with CR LF")
+    }
 }
 
 // The number at an offset.
+#[tactic(auto, unfolding(crate::specs::List::number_at))]
 pub fn number(list: &[u8], at: usize) -> u32
     requires { at + 4 ≤ length list.now }
     ensures { result ≡ number_at list.now at }
 {
-    let a = wide(list[at]);
-    let b = wide(list[at + 1]);
-    let c = wide(list[at + 2]);
-    let d = wide(list[at + 3]);
-    a + b * 256 + c * 65536 + d * 16777216
+    u32::from_le_bytes([list[at], list[at + 1], list[at + 2], list[at + 3]])
 }
 
 // The next number of the list.
 pub fn read_number(input: Stdin) -> io::Result<u32> {
     let mut bytes = [0u8; 4];
     input::read_full(input, &mut bytes)?;
-    Ok(number(&bytes, 0))
+    Ok(u32::from_le_bytes(bytes))
 }
 
 // Reads the next part of the list, its length and its bytes, to the start of a space; answers the length, 0 if the space is too short.
@@ -98,12 +154,11 @@ pub fn read_part(input: Stdin, space: &mut [u8]) -> io::Result<usize>
 // Passes over so many bytes of the list.
 fn pass_bytes(input: Stdin, count: usize) -> io::Result<()> {
     let mut bytes = [0u8; 4096];
-    let mut left = count;
-    while 4096 < left {
+    for _ in 0..count / bytes.len() {
         input::read_full(input, &mut bytes)?;
-        left -= 4096;
     }
-    input::read_full(input, &mut bytes[..left])?;
+    let rest = count % bytes.len();
+    input::read_full(input, &mut bytes[..rest])?;
     Ok(())
 }
 
@@ -123,55 +178,17 @@ pub fn pass_records(input: Stdin, nodes: u32, comments: u32) -> io::Result<()> {
 pub fn zero_from(table: &[u32], start: usize) -> bool
     ensures { (result ≡ true → ZeroFrom table.now start) × (ZeroFrom table.now start → result ≡ true) }
 {
-    let mut i = start;
-    while i < table.len() {
-        if table[i] != 0 {
-            return false;
-        }
-        i += 1;
-    }
-    true
-}
-
-// Whether two tables are the same.
-pub fn same_numbers(a: &[u32], b: &[u32]) -> bool
-    ensures { (result ≡ true → a.now ≡ b.now) × (a.now ≡ b.now → result ≡ true) }
-{
-    if a.len() != b.len() {
-        return false;
-    }
-    let mut k: usize = 0;
-    while k < a.len() {
-        if a[k] != b[k] {
-            return false;
-        }
-        k += 1;
-    }
-    true
-}
-
-// Whether two runs of bytes are the same.
-pub fn same_bytes(a: &[u8], b: &[u8]) -> bool
-    ensures { (result ≡ true → a.now ≡ b.now) × (a.now ≡ b.now → result ≡ true) }
-{
-    a == b
+    table.iter().skip(start).all(|&number| number == 0)
 }
 
 // Whether `\r` stands at an offset, and `\n` directly behind it.
 pub fn is_pair(text: &[u8], at: usize) -> bool
     ensures { result ≡ pair_at text.now at }
 {
-    if text.len() <= at {
+    let Some(rest) = text.get(at..) else {
         return false;
-    }
-    if text[at] != b'\r' {
-        return false;
-    }
-    let next = at + 1;
-    if text.len() <= next {
-        return false;
-    }
-    text[next] == b'\n'
+    };
+    rest.starts_with(b"\r\n")
 }
 
 // Whether `\r` stands directly before `\n` anywhere in a text, strings and comments too.
@@ -179,31 +196,5 @@ pub fn is_pair(text: &[u8], at: usize) -> bool
 pub fn has_pair(text: &[u8]) -> bool
     ensures { result ≡ has_pair text.now }
 {
-    let mut at: usize = 0;
-    while at < text.len() {
-        if is_pair(text, at) {
-            return true;
-        }
-        at += 1;
-    }
-    false
-}
-
-// Writes that a text differs; the first is 0.
-pub fn write_differing(out: Stdout, number: u32) -> io::Result<()> {
-    print!(out; "text ")?;
-    write_count(out, number, b" differs\n")
-}
-
-// Writes a number and what it counts.
-pub fn write_count(out: Stdout, number: u32, what: &[u8]) -> io::Result<()> {
-    print!(out; "{number}")?;
-    out.write_all(what)
-}
-
-// Writes what was found in so many texts.
-pub fn write_tally(out: Stdout, texts: u32, tally: Tally) -> io::Result<()> {
-    write_count(out, texts, b" texts, ")?;
-    write_count(out, tally.differing, b" differ; ")?;
-    write_count(out, tally.paired, b" with CR LF\n")
+    (0..text.len()).any(|at| is_pair(text, at))
 }

@@ -9,261 +9,195 @@
 
 ghost use Rattle.std.specs.Prelude.{◌≡◌, ◌+◌, ◌≤◌, length};
 ghost use Rattle.lexer.specs.Limit.{limit};
-ghost use Rattle.token.specs.Tables.{tables};
-ghost use Rattle.replay_tokens.specs.Inside.{Inside, Found};
 
-use lexer::Checked;
+use lexer::error::ErrorKind;
 use lexer::location::{Lexer, Next, ParserToken, Span};
-use replay::Tally;
-use std::io;
+use replay::{Findings, Tally};
+use std::error::Error;
 use std::io::Stdout;
+use std::{fmt, io};
 
 // The bytes of a token in the list.
 const ROW: usize = 28;
 
-// A text of the list: its bytes from `start` to `end`, its tokens from `rows` to `next`.
+// A text of the list, rico's verdict and its place, and the rows of its tokens.
 #[derive(Clone, Copy)]
-struct Text {
-    start: usize,
-    end: usize,
+struct Entry<'a> {
+    text: &'a [u8],
     verdict: u32,
     place: u32,
-    rows: usize,
-    next: usize,
+    rows: &'a [u8],
 }
 
-// What stands at a place of the list.
-#[derive(Clone, Copy)]
-enum Read {
-    Text(Text),
-    // less than a text
-    Short,
+impl Entry<'_> {
+    // Whether the verdict is this refusal, at this place.
+    fn is_refused(self, kind: ErrorKind, place: u32) -> bool {
+        self.verdict == kind.number() && self.place == place
+    }
 }
 
-// What the comparison of all texts finds.
-#[derive(Clone, Copy)]
-enum Outcome {
-    // how many texts differ, and how many have CR LF
-    Compared(Tally),
-    // the list is cut short
+// Why a list is not the texts that it counts.
+#[derive(Clone, Copy, Debug, PartialEq, Eq)]
+enum ListError {
+    // it is cut short
     Short,
     // bytes are left behind the last text
     Long,
 }
 
-// The text at an offset.
-fn text_at(list: &[u8], at: usize) -> Read
-    requires { at ≤ length list.now }
-    ensures { Found (length list.now) result }
-{
-    if list.len() - at < 4 {
-        return Read::Short;
+impl fmt::Display for ListError {
+    fn fmt<W: fmt::Write>(&self, f: &mut fmt::Formatter<W>) -> fmt::Result {
+        f.write_str(match self {
+            ListError::Short => "the list ends early",
+            ListError::Long => "the list goes on",
+        })
     }
-    let start = at + 4;
-    let size = replay::number(list, at) as usize;
-    if list.len() - start < size {
-        return Read::Short;
-    }
-    let end = start + size;
-    if list.len() - end < 12 {
-        return Read::Short;
-    }
-    let verdict = replay::number(list, end);
-    let place = replay::number(list, end + 4);
-    let count = replay::number(list, end + 8) as usize;
-    let rows = end + 12;
-    if list.len() - rows < count * ROW {
-        return Read::Short;
-    }
-    Read::Text(Text {
-        start,
-        end,
-        verdict,
-        place,
-        rows,
-        next: rows + count * ROW,
-    })
 }
 
-// Whether a line is rico's less so many pairs of CR LF.
-fn same_line(line: u32, rico: u32, pairs: u32) -> bool {
-    if rico < line {
-        return false;
-    }
-    rico - line == pairs
+impl Error for ListError {}
+
+// What is left of the list.
+#[derive(Clone, Copy)]
+struct List<'a> {
+    rest: &'a [u8],
 }
 
-// Whether index, line and column of a place stand at an offset.
-fn same_span(rows: &[u8], at: usize, span: Span, pairs: u32) -> bool
-    requires { at + 12 ≤ length rows.now }
-{
-    if replay::number(rows, at) != span.index {
-        return false;
+impl<'a> List<'a> {
+    // Takes a number.
+    fn number(&mut self) -> Result<u32, ListError> {
+        let (number, rest) = self.rest.split_first_chunk::<4>().ok_or(ListError::Short)?;
+        self.rest = rest;
+        Ok(u32::from_le_bytes(*number))
     }
-    if !same_line(span.line, replay::number(rows, at + 4), pairs) {
-        return false;
-    }
-    replay::number(rows, at + 8) == span.column
-}
 
-// Whether a token stands at an offset.
-fn same_token(rows: &[u8], at: usize, token: ParserToken, pairs: u32) -> bool
-    requires { at + 28 ≤ length rows.now }
-{
-    let kind = token.token;
-    let loc = token.loc;
-    if replay::number(rows, at) != kind.code() {
-        return false;
+    // Takes so many bytes.
+    fn part(&mut self, length: usize) -> Result<&'a [u8], ListError> {
+        let (part, rest) = self.rest.split_at_checked(length).ok_or(ListError::Short)?;
+        self.rest = rest;
+        Ok(part)
     }
-    if !same_span(rows, at + 4, loc.start, pairs) {
-        return false;
-    }
-    same_span(rows, at + 16, loc.end, pairs)
-}
 
-// Whether what follows the last token is what the verdict says.
-fn same_end(next: Next, verdict: u32, place: u32) -> bool {
-    match next {
-        Next::On(_, _) => false,
-        Next::End => verdict == 0,
-        Next::Unrecognized(at) => {
-            if verdict != 22 {
-                return false;
-            }
-            at == place
+    // Takes a text.
+    fn entry(&mut self) -> Result<Entry<'a>, ListError> {
+        let length = self.number()?;
+        let text = self.part(length as usize)?;
+        let verdict = self.number()?;
+        let place = self.number()?;
+        let count = self.number()?;
+        let rows = self.part(count as usize * ROW)?;
+        Ok(Entry {
+            text,
+            verdict,
+            place,
+            rows,
+        })
+    }
+
+    // Nothing may be left.
+    fn end(self) -> Result<(), ListError> {
+        if self.rest.is_empty() {
+            Ok(())
+        } else {
+            Err(ListError::Long)
         }
     }
+}
+
+// Whether index, line and column of a place stand at an offset; the line is rico's less so many pairs of CR LF.
+fn same_span(row: &[u8], at: usize, span: Span, pairs: u32) -> bool
+    requires { at + 12 ≤ length row.now }
+{
+    let line = replay::number(row, at + 4);
+    replay::number(row, at) == span.index
+        && span.line.checked_add(pairs) == Some(line)
+        && replay::number(row, at + 8) == span.column
+}
+
+// Whether a row is this token.
+fn same_token(row: &[u8; ROW], token: ParserToken, pairs: u32) -> bool {
+    let ParserToken { token, loc } = token;
+    replay::number(row, 0) == token.code()
+        && same_span(row, 4, loc.start, pairs)
+        && same_span(row, 16, loc.end, pairs)
 }
 
 // So many pairs of CR LF, and those from an offset up to a token.
 fn add_pairs(text: &[u8], from: u32, token: ParserToken, pairs: u32) -> u32 {
-    let loc = token.loc;
-    let start = loc.start;
-    let mut count = pairs;
-    for at in from..start.index {
-        if replay::is_pair(text, at as usize) {
-            count = ast::bump(count);
-        }
-    }
-    count
+    (from..token.loc.start.index)
+        .filter(|&at| replay::is_pair(text, at as usize))
+        .fold(pairs, |count, _| ast::bump(count))
 }
 
 // Whether the tokens of a text are those of the rows, and end as the verdict says.
-fn same_tokens(lut: &[u8; 768], text: &[u8], rows: &[u8], verdict: u32, place: u32) -> bool
-    requires { (lut.now ≡ tables) × (length text.now ≤ limit) }
+fn same_tokens(entry: Entry) -> bool
+    requires { length entry.text.now ≤ limit }
 {
+    let text = entry.text;
     let mut from = Lexer::new();
-    let mut pairs: u32 = 0;
-    let mut at: usize = 0;
-    while ROW <= rows.len() - at {
-        let next = lexer::next_token(lut, text, from);
-        let Next::On(token, behind) = next else {
+    let mut pairs = 0;
+    let (rows, _) = entry.rows.as_chunks::<ROW>();
+    for row in rows {
+        let Next::On(token, behind) = lexer::next_token(text, from) else {
             return false;
         };
         pairs = add_pairs(text, from.at, token, pairs);
-        if !same_token(rows, at, token, pairs) {
+        if !same_token(row, token, pairs) {
             return false;
         }
         from = behind;
-        at += ROW;
     }
-    same_end(lexer::next_token(lut, text, from), verdict, place)
-}
-
-// The same with the table.
-fn same_cuts(text: &[u8], rows: &[u8], verdict: u32, place: u32) -> bool
-    requires { length text.now ≤ limit }
-{
-    let lut = lexer::table::LUT;
-    same_tokens(&lut, text, rows, verdict, place)
+    match lexer::next_token(text, from) {
+        Next::On(_, _) => false,
+        Next::End => entry.verdict == 0,
+        Next::Unrecognized(at) => entry.is_refused(ErrorKind::NoToken, at),
+    }
 }
 
 // Whether the check of a text answers as the verdict says, and its tokens are rico's. There are no tokens to compare where it is no UTF-8.
-fn same_text(text: &[u8], rows: &[u8], verdict: u32, place: u32) -> bool {
-    match lexer::check(text) {
-        Checked::Fine => {
-            if verdict != 0 {
-                return false;
-            }
-            same_cuts(text, rows, verdict, place)
-        }
-        Checked::TooLong => false,
-        Checked::IllFormed(at) => {
-            if verdict != 21 {
-                return false;
-            }
-            at == place as usize
-        }
-        Checked::Unrecognized(at) => {
-            if verdict != 22 {
-                return false;
-            }
-            if at != place as usize {
-                return false;
-            }
-            same_cuts(text, rows, verdict, place)
+fn same_text(entry: Entry) -> bool {
+    match lexer::check(entry.text) {
+        Ok(()) => entry.verdict == 0 && same_tokens(entry),
+        Err(refusal) => {
+            entry.is_refused(refusal.kind, refusal.place)
+                && match refusal.kind {
+                    ErrorKind::NoToken => same_tokens(entry),
+                    _ => true,
+                }
         }
     }
 }
 
-// Compares a text.
-fn compare_text(text: &[u8], rows: &[u8], verdict: u32, place: u32, tally: Tally) -> Tally {
-    let same = same_text(text, rows, verdict, place);
-    tally.with(same, replay::has_pair(text))
+// Compares the next text of the list.
+fn compare_next(list: &mut List, tally: Tally) -> Result<Tally, ListError> {
+    let entry = list.entry()?;
+    Ok(tally.with(same_text(entry), replay::has_pair(entry.text)))
 }
 
-// Compares a text of the list.
-fn compare_entry(list: &[u8], text: Text, tally: Tally) -> Tally
-    requires { Inside (length list.now) text }
-{
-    let start = text.start;
-    let end = text.end;
-    let rows = text.rows;
-    let next = text.next;
-    compare_text(
-        &list[start..end],
-        &list[rows..next],
-        text.verdict,
-        text.place,
-        tally,
-    )
-}
-
-// Compares all texts.
-fn compare(out: Stdout, list: &[u8], texts: u32) -> io::Result<Outcome>
-    requires { 4 ≤ length list.now }
-{
-    let mut at: usize = 4;
+// Compares so many texts, writes the index of each that differs, and tells what was found.
+fn compare(out: Stdout, mut list: List, texts: u32) -> io::Result<Result<Tally, ListError>> {
     let mut tally = Tally::new();
-    for i in 0..texts {
-        let read = text_at(list, at);
-        let Read::Text(text) = read else {
-            return Ok(Outcome::Short);
+    for index in 0..texts {
+        let now = match compare_next(&mut list, tally) {
+            Ok(now) => now,
+            Err(error) => return Ok(Err(error)),
         };
-        let now = compare_entry(list, text, tally);
-        if now.differing != tally.differing {
-            replay::write_differing(out, i)?;
+        if now.has_more(&tally) {
+            println!(out; "text {index} differs")?;
         }
         tally = now;
-        at = text.next;
     }
-    if at < list.len() {
-        return Ok(Outcome::Long);
-    }
-    Ok(Outcome::Compared(tally))
+    Ok(list.end().map(|()| tally))
 }
 
-// Compares all texts of the list and says what differs.
-fn compare_list(out: Stdout, list: &[u8]) -> io::Result<()> {
-    if list.len() < 4 {
-        return println!(out; "the list ends early");
-    }
-    let texts = replay::number(list, 0);
-    let outcome = compare(out, list, texts)?;
-    match outcome {
-        Outcome::Compared(tally) => replay::write_tally(out, texts, tally),
-        Outcome::Short => println!(out; "the list ends early"),
-        Outcome::Long => println!(out; "the list goes on"),
+// Compares all texts of the list and says what was found.
+fn compare_list(out: Stdout, mut list: List) -> io::Result<()> {
+    let texts = match list.number() {
+        Ok(texts) => texts,
+        Err(error) => return println!(out; "{error}"),
+    };
+    match compare(out, list, texts)? {
+        Ok(tally) => println!(out; "{texts} texts, {tally}"),
+        Err(error) => println!(out; "{error}"),
     }
 }
 
@@ -282,7 +216,7 @@ fn space() -> [u8; 524288]
 }
 
 fn main(rt: HostRuntime) -> io::Result<()> {
-    let mut list = space();
-    let n = input::read_full(rt.stdin(), &mut list)?;
-    compare_list(rt.stdout(), &list[..n])
+    let mut space = space();
+    let n = input::read_full(rt.stdin(), &mut space)?;
+    compare_list(rt.stdout(), List { rest: &space[..n] })
 }

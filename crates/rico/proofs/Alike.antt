@@ -6,7 +6,7 @@
 --     outcomes_alike   so outcomes that are equal without lines and columns are alike
 use mathlib.Core.Path.{◌≡◌, refl, ap, sym, ◌∙◌}
 use mathlib.Core.List.{List, [], ◌∷◌}
-use mathlib.Core.Option.{some, none}
+use Rattle.std.specs.Prelude.{Some, None}
 use Prim.Native.Nat.{ℕ}
 use native.Mathlib.Omega.{arith}
 use lib.ListN.{length, get_or}
@@ -36,8 +36,8 @@ keeps s = refl
 answered_unlined : (m : Res (List Definition)) (t : List ℕ) → unlined_outcome (answered m t) ≡ answered (move_r unlined (move unlined) m) t
 unfolding unlined_outcome answered error move_r unlined
 answered_unlined (ok ds s) t = refl
-answered_unlined (no (raise e none) l) t = refl
-answered_unlined (no (raise e (some k)) l) t = refl
+answered_unlined (no (raise e None) l) t = refl
+answered_unlined (no (raise e (Some k)) l) t = refl
 
 -- the tokens of a document, before the first is taken
 abbrev start : List Lexeme → St

@@ -6,7 +6,7 @@ use native.Mathlib.Omega.{arith}
 use mathlib.Core.Path.{◌≡◌, refl, ap}
 use mathlib.Core.Bool.{Bool, true, false}
 use mathlib.Core.List.{List, [], ◌∷◌}
-use mathlib.Core.Option.{Option, some}
+use Rattle.std.specs.Prelude.{Option, Some}
 use Prim.Native.Nat.{ℕ, suc, zero}
 use Rattle.token.specs.declared.Token.{Token}
 use Rattle.token.specs.declared.Token.TheVariants as T
@@ -25,7 +25,7 @@ use Rattle.rico.specs.Reading.{parsed_by}
 
 -- the first two readings came to the refusal of a begun field, with the numbers x and y, at one token; or all three are the same
 pub data Till (x y : ℕ) {A : Type 0} : Res A → Res A → Res A → Type 0 where
-  stopped : {t : Lexeme} {p : LOC} {r : Res A} → Till x y (no (raise x (some t)) p) (no (raise y (some t)) p) r
+  stopped : {t : Lexeme} {p : LOC} {r : Res A} → Till x y (no (raise x (Some t)) p) (no (raise y (Some t)) p) r
   alike : {r : Res A} → Till x y r r r
 
 module _ (x y : ℕ) where

@@ -11,8 +11,8 @@ use Rattle.token.specs.Code.{is}
 use Rattle.token.specs.Scan.{scan}
 use Rattle.token.specs.declared.Token.{Token}
 use Rattle.token.specs.declared.Token.TheVariants as T
-use Rattle.token.specs.declared.Scan.{Scan}
-use Rattle.token.specs.declared.Scan.TheVariants.{Miss, Hit}
+use Rattle.token.specs.Scanned.{Scan}
+use Rattle.std.specs.Prelude.{Some, None}
 use Rattle.lexer.specs.declared.location.Lexer.{Lexer}
 use Rattle.lexer.specs.Cuts.{Cuts, end, stuck, cut, cuts}
 use Rattle.lexer.specs.Location as L
@@ -37,8 +37,8 @@ parts_step m [] ih h = rw cuts_nil tt
 parts_step m (c ∷ t) ih h = go (scan (c ∷ t)) refl
   where
     go : (s : Scan) → scan (c ∷ t) ≡ s → Parts (cuts (c ∷ t)) (c ∷ t)
-    go Miss e = rw (cuts_miss (c ∷ t) (omega arith) e) tt
-    go (Hit k n) e =
+    go None e = rw (cuts_miss (c ∷ t) (omega arith) e) tt
+    go (Some (k, n)) e =
         rw (cuts_hit (c ∷ t) k n e)
         (take-append-drop n (c ∷ t), ih (drop n (c ∷ t)) (omega (arith, length-drop n (c ∷ t), (hit_fits (c ∷ t) k n e).0)))
 

@@ -20,7 +20,7 @@ use Rattle.token.specs.Scan.{scan}
 use Rattle.token.specs.Run.{class_of, before}
 use Rattle.token.specs.Automaton.{named, opened, openings, whole_byte, longest, Reached}
 use Rattle.token.specs.declared.Token.TheVariants as T
-use Rattle.token.specs.declared.Scan.TheVariants.{Hit}
+use Rattle.std.specs.Prelude.{Some}
 use Rattle.token.proofs.Reach.{reach_start}
 use Rattle.token.proofs.Classes.{class_below}
 use Rattle.token.proofs.Words.{scan_plain}
@@ -38,7 +38,7 @@ module _ (t : List ℕ) (at : ℕ) (bytes : (j : ℕ) → get_or t j 0 < 256) (h
   first : get_or (drop at t) 0 0 ≡ get_or t at 0
   first = get_or-drop at t 0 0 ∙ rw add-zero
 
-  pub letter_at : 8 ≤ class_of (get_or t at 0) → class_of (get_or t at 0) < 36 → Reached (drop at t) named 1 (Hit T.Identifier 1)
+  pub letter_at : 8 ≤ class_of (get_or t at 0) → class_of (get_or t at 0) < 36 → Reached (drop at t) named 1 (Some (T.Identifier, 1))
   letter_at l u = first_letter (reach_start (drop at t) behind) inside (rw first l) (rw first u)
 
   sign_at : 36 ≤ class_of (get_or t at 0) → longest (drop at t) ≡ scan (drop at t)
@@ -58,12 +58,12 @@ module _ (t : List ℕ) (at : ℕ) (bytes : (j : ℕ) → get_or t j 0 < 256) (h
       ∙ mark_done (reach_start (drop at t) behind) inside k q (omega arith) (omega arith)
       (rw (ne_eqb k 59 n, ne_eqb k 41 n1, ne_eqb k 43 n2, ne_eqb k 44 n3, ne_eqb k 38 n4, ne_eqb k 45 n5, ne_eqb k 36 n6))
 
-  pub blank_at : class_of (get_or t at 0) ≡ 59 → scan (drop at t) ≡ Hit T.Blank (1 + before 0 59 (drop (at + 1) t))
+  pub blank_at : class_of (get_or t at 0) ≡ 59 → scan (drop at t) ≡ Some (T.Blank, 1 + before 0 59 (drop (at + 1) t))
   blank_at e =
       sym (sign_at (omega arith)) ∙ first_blank (reach_start (drop at t) behind) inside (rw first e) ∙ rw (drop-drop 1 at t)
 
   -- a line end between tokens
-  pub line_at : (k : ℕ) → k ≡ class_of (get_or t at 0) → (eqb k 39 || eqb k 40) ≡ true → scan (drop at t) ≡ Hit T.Newline 1
+  pub line_at : (k : ℕ) → k ≡ class_of (get_or t at 0) → (eqb k 39 || eqb k 40) ≡ true → scan (drop at t) ≡ Some (T.Newline, 1)
   unfolding opened openings whole_byte
   line_at k e l = ⊎_elim (λ z. go 39 (sym z ∙ e) (omega arith) refl ∙ refl) (λ z. go 40 (sym z ∙ e) (omega arith) refl ∙ refl) (either k l)
     where

@@ -42,7 +42,7 @@ use Rattle.token.specs.Automaton.{
   longest,
   Reached,
 }
-use Rattle.token.specs.declared.Scan.TheVariants.{Miss}
+use Rattle.std.specs.Prelude.{None}
 use Rattle.token.proofs.Every.{every, at}
 use Rattle.token.proofs.Reach.{dead_scan}
 use Rattle.token.proofs.Classes.{classes_length}
@@ -75,10 +75,10 @@ ended (in_string q) = false
 ended (escaped q) = false
 ended (closed k) = true
 
-ended_done : (t : List ℕ) (s : State) → T (ended s) → Reached t s 1 (keep (kind_at s) 1 Miss) → longest t ≡ whole_byte s
+ended_done : (t : List ℕ) (s : State) → T (ended s) → Reached t s 1 (keep (kind_at s) 1 None) → longest t ≡ whole_byte s
 unfolding ended whole_byte keep kind_at rules_at
 ended_done t start e r = absurd e
-ended_done t dead e r = r.decides ∙ dead_scan 1 Miss _
+ended_done t dead e r = r.decides ∙ dead_scan 1 None _
 ended_done t blanks e r = absurd e
 ended_done t comment e r = absurd e
 ended_done t signed e r = absurd e
@@ -112,7 +112,7 @@ single_test : T (every single 0 classes)
 unfolding single ended openings classes
 single_test = tt
 
-pub mark_done : {t : List ℕ} → Reached t start 0 Miss → 0 < length t → (k : ℕ) → k ≡ class_of (get_or t 0 0) → 36 ≤ k → k < 256 → elem k starters ≡ false → longest t ≡ opened k
+pub mark_done : {t : List ℕ} → Reached t start 0 None → 0 < length t → (k : ℕ) → k ≡ class_of (get_or t 0 0) → 36 ≤ k → k < 256 → elem k starters ≡ false → longest t ≡ opened k
 unfolding opened single
 mark_done {t} r h k e l b n =
     let x : T (ended (get_or openings (k - 36) dead)) = rw (le-ltb k 36 l, n) at (at single classes 0 single_test k (rw classes_length b)) in

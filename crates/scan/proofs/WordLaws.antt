@@ -22,8 +22,8 @@ use Rattle.token.specs.Automaton.{State, named, name_dot, dead, step as move, ki
 use Rattle.token.specs.WordNumber.{start, no_keyword, numbers, step_by, step, number_from, number, kind_of, word_from}
 use Rattle.token.specs.declared.Token.{Token}
 use Rattle.token.specs.declared.Token.TheVariants as T
-use Rattle.token.specs.declared.Scan.{Scan}
-use Rattle.token.specs.declared.Scan.TheVariants.{Hit}
+use Rattle.token.specs.Scanned.{Scan}
+use Rattle.std.specs.Prelude.{Some}
 use Rattle.token.proofs.Numbers.{lt_or_le}
 use Rattle.token.proofs.Reach.{reach_step, reach_end}
 use Rattle.token.proofs.Words.{scan_word}
@@ -52,16 +52,16 @@ within_move s k in_dot = go (leb 8 k && ltb k 36)
     go false = in_dead
 within_move s k in_dead = in_dead
 
-within_keep : (s : State) (i j : ℕ) → Within s → j ≤ i → (e : ℕ) × (keep (kind_at s) i (Hit T.Identifier j) ≡ Hit T.Identifier e) × (j ≤ e) × (e ≤ i)
+within_keep : (s : State) (i j : ℕ) → Within s → j ≤ i → (e : ℕ) × (keep (kind_at s) i (Some (T.Identifier, j)) ≡ Some (T.Identifier, e)) × (j ≤ e) × (e ≤ i)
 unfolding keep kind_at
 within_keep s i j in_name h = (i, refl, h, omega arith)
 within_keep s i j in_dot h = (j, refl, omega arith, h)
 within_keep s i j in_dead h = (j, refl, omega arith, h)
 
 Ends : List ℕ → ℕ → Type 0
-Ends t i = (e : ℕ) × (longest t ≡ Hit T.Identifier e) × (i ≤ e)
+Ends t i = (e : ℕ) × (longest t ≡ Some (T.Identifier, e)) × (i ≤ e)
 
-ends_from : (n : ℕ) {t : List ℕ} {s : State} {i j : ℕ} → length t ≤ i + n → Within s → j ≤ i → Reached t s i (Hit T.Identifier j) → Ends t j
+ends_from : (n : ℕ) {t : List ℕ} {s : State} {i j : ℕ} → length t ≤ i + n → Within s → j ≤ i → Reached t s i (Some (T.Identifier, j)) → Ends t j
 unfolding Ends
 ends_from zero {j = j} l w h r = (j, reach_end r (omega arith), omega arith)
 ends_from (suc n) {t} {s} {i} {j} l w h r =
@@ -73,7 +73,7 @@ ends_from (suc n) {t} {s} {i} {j} l w h r =
     (λ a. (j, reach_end r a, omega arith))
     (lt_or_le i (length t))
 
-pub named_end : {t : List ℕ} {i : ℕ} → Reached t named i (Hit T.Identifier i) → (e : ℕ) × (longest t ≡ Hit T.Identifier e) × (i ≤ e)
+pub named_end : {t : List ℕ} {i : ℕ} → Reached t named i (Some (T.Identifier, i)) → (e : ℕ) × (longest t ≡ Some (T.Identifier, e)) × (i ≤ e)
 unfolding Ends
 named_end {t} {i} r = ends_from (length t) {t = t} {s = named} {i = i} {j = i} (omega arith) in_name (omega arith) r
 
@@ -99,27 +99,27 @@ unfolding number_from step
 number_on t n at i m e h l r f =
     f ∙ ap (λ (x : ℕ). step_by x (class_of (get_or t i 0))) e ∙ sym (from_append n (slice at i t) (get_or t i 0 ∷ [])) ∙ ap (number_from n) (sym (slice_snoc at i t h l))
 
-pub word_cut : (t : List ℕ) (n at i m : ℕ) → Reached t named i (Hit T.Identifier i) → at ≤ i → m ≡ number_from n (slice at i t)
+pub word_cut : (t : List ℕ) (n at i m : ℕ) → Reached t named i (Some (T.Identifier, i)) → at ≤ i → m ≡ number_from n (slice at i t)
     → (r : Scan) → r ≡ word_from m i t (longest t) → r ≡ word_from n at t (longest t)
 unfolding word_from
 word_cut t n at i m s h f r e =
     let d = named_end s in
     e ∙ ap (word_from m i t) d.1
-    ∙ ap (λ (x : ℕ). Hit (kind_of x) d.0)
+    ∙ ap (λ (x : ℕ). Some (kind_of x, d.0))
     (ap (λ (x : ℕ). number_from x (slice i d.0 t)) f ∙ sym (from_append n (slice at i t) (slice i d.0 t)) ∙ ap (number_from n) (sym (slice_split at i d.0 t h d.2 s.inside)))
     ∙ ap (word_from n at t) (sym d.1)
 
-pub word_ends : (t : List ℕ) (n i : ℕ) → longest t ≡ Hit T.Identifier i → (k : Token) → k ≡ kind_of n → Hit k i ≡ word_from n i t (longest t)
+pub word_ends : (t : List ℕ) (n i : ℕ) → longest t ≡ Some (T.Identifier, i) → (k : Token) → k ≡ kind_of n → Some (k, i) ≡ word_from n i t (longest t)
 unfolding word_from number_from
 word_ends t n i e k f =
-    ap (λ (q : Token). Hit q i) (f ∙ ap (λ (u : List ℕ). kind_of (number_from n u)) (sym (slice_empty i t))) ∙ ap (word_from n i t) (sym e)
+    ap (λ (q : Token). Some (q, i)) (f ∙ ap (λ (u : List ℕ). kind_of (number_from n u)) (sym (slice_empty i t))) ∙ ap (word_from n i t) (sym e)
 
-pub name_word : (t : List ℕ) (at e : ℕ) → longest t ≡ Hit T.Identifier e → (k : Token) → k ≡ kind_of no_keyword → Hit k e ≡ word_from no_keyword at t (longest t)
+pub name_word : (t : List ℕ) (at e : ℕ) → longest t ≡ Some (T.Identifier, e) → (k : Token) → k ≡ kind_of no_keyword → Some (k, e) ≡ word_from no_keyword at t (longest t)
 unfolding word_from
-name_word t at e g k f = ap (λ (q : Token). Hit q e) (f ∙ ap kind_of (sym (from_none (slice at e t)))) ∙ ap (word_from no_keyword at t) (sym g)
+name_word t at e g k f = ap (λ (q : Token). Some (q, e)) (f ∙ ap kind_of (sym (from_none (slice at e t)))) ∙ ap (word_from no_keyword at t) (sym g)
 
 -- behind a dot no keyword goes on
-pub word_dot : (t : List ℕ) (n i : ℕ) → Reached t named (i + 2) (Hit T.Identifier (i + 2)) → n < numbers → i + 1 < length t → 36 ≤ class_of (get_or t i 0)
+pub word_dot : (t : List ℕ) (n i : ℕ) → Reached t named (i + 2) (Some (T.Identifier, i + 2)) → n < numbers → i + 1 < length t → 36 ≤ class_of (get_or t i 0)
     → (r : Scan) → r ≡ word_from no_keyword (i + 2) t (longest t) → r ≡ word_from n i t (longest t)
 unfolding number_from step
 word_dot t n i s b l k r e =
@@ -128,8 +128,8 @@ word_dot t n i s b l k r e =
     let f : i + 1 + 1 ≡ i + 2 = omega arith in
     word_cut t n i (i + 2) no_keyword s (omega arith) (rw f at two) r e
 
-pub word_scan : (t : List ℕ) (i : ℕ) → Reached t named i (Hit T.Identifier i) → (r : Scan) → r ≡ word_from start 0 t (longest t) → r ≡ scan t
+pub word_scan : (t : List ℕ) (i : ℕ) → Reached t named i (Some (T.Identifier, i)) → (r : Scan) → r ≡ word_from start 0 t (longest t) → r ≡ scan t
 unfolding word_from number
 word_scan t i s r e =
     let d = named_end s in
-    e ∙ ap (word_from start 0 t) d.1 ∙ ap (λ (q : Token). Hit q d.0) (kind_told (take d.0 t)) ∙ sym (scan_word t d.0 d.1)
+    e ∙ ap (word_from start 0 t) d.1 ∙ ap (λ (q : Token). Some (q, d.0)) (kind_told (take d.0 t)) ∙ sym (scan_word t d.0 d.1)

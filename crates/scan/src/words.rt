@@ -1,8 +1,8 @@
 // Keywords, told by the number that a word's bytes lead to. Neither function is lent the text.
 ghost use Rattle.std.specs.Prelude.{◌≡◌, ◌<◌};
-ghost use Rattle.token.specs.Tables.{tables};
 ghost use Rattle.token.specs.WordNumber.{step_by, kind_of};
 
+use crate::table::TRIE;
 use token::Token;
 
 // The number at the start of a word, and the one where no keyword begins with the bytes so far.
@@ -11,12 +11,12 @@ pub const START: u8 = 1;
 pub const NO_KEYWORD: u8 = 0;
 
 // The number behind a byte of the class k.
-pub fn step(lut: &[u8; 768], number: u8, k: u8) -> u8
-    requires { (lut.now ≡ tables) × (k < 36) }
+pub fn step(number: u8, k: u8) -> u8
+    requires { k < 36 }
     ensures { result ≡ step_by number k }
 {
-    let next = lut[256 + number as usize] as usize + k as usize;
-    if lut[512 + next] == number {
+    let next = TRIE[number as usize] as usize + k as usize;
+    if TRIE[256 + next] == number {
         next as u8
     } else {
         NO_KEYWORD

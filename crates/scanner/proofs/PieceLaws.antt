@@ -15,8 +15,8 @@ use lib.ListN.{length, take, drop, length-drop, drop_of_length-le}
 use lib.Seq.{drop-drop, length-take-le}
 use Rattle.token.specs.Scan.{scan}
 use Rattle.token.specs.declared.Token.{Token}
-use Rattle.token.specs.declared.Scan.{Scan}
-use Rattle.token.specs.declared.Scan.TheVariants.{Miss, Hit}
+use Rattle.token.specs.Scanned.{Scan}
+use Rattle.std.specs.Prelude.{Some, None}
 use Rattle.lexer.proofs.NextLaws.{behind}
 use Rattle.lexer.specs.declared.location.Lexer.{Lexer}
 use Rattle.lexer.specs.declared.location.Next.{Next}
@@ -36,11 +36,11 @@ module _ (t : List ℕ) (at : ℕ) where
   unfolding piece_at piece_of
   piece_end h = rw (drop_of_length-le t h, cuts_nil)
 
-  pub piece_miss : at < length t → scan (drop at t) ≡ Miss → piece_at t at ≡ record { what = W.Unrecognized; start = at; end = at }
+  pub piece_miss : at < length t → scan (drop at t) ≡ None → piece_at t at ≡ record { what = W.Unrecognized; start = at; end = at }
   unfolding piece_at piece_of
   piece_miss h e = rw (cuts_miss (drop at t) (omega (arith, length-drop at t)) e)
 
-  pub piece_hit : (k : Token) (n : ℕ) → scan (drop at t) ≡ Hit k n
+  pub piece_hit : (k : Token) (n : ℕ) → scan (drop at t) ≡ Some (k, n)
       → piece_at t at ≡ cond (skipped k) (piece_at t (at + n)) (record { what = W.Token k; start = at; end = at + n })
   unfolding piece_at piece_of
   piece_hit k n e =
@@ -48,7 +48,7 @@ module _ (t : List ℕ) (at : ℕ) where
       ∙ rw (length-take-le n (drop at t) (hit_fits (drop at t) k n e).1, drop-drop n at t)
 
   -- a lexeme is not empty and lies inside the text
-  fits : (k : Token) (n : ℕ) → scan (drop at t) ≡ Hit k n → (0 < n) × (at + n ≤ length t)
+  fits : (k : Token) (n : ℕ) → scan (drop at t) ≡ Some (k, n) → (0 < n) × (at + n ≤ length t)
   fits k n e =
       let f = hit_fits (drop at t) k n e in
       (f.0, omega (arith, f.0, f.1, length-drop at t))
@@ -57,22 +57,22 @@ module _ (t : List ℕ) (at : ℕ) where
 
 module _ (t : List ℕ) (P : ℕ → Piece → Type 0)
     (at_end : (at : ℕ) → length t ≤ at → P at (record { what = W.End; start = at; end = at }))
-    (at_miss : (at : ℕ) → at < length t → scan (drop at t) ≡ Miss → P at (record { what = W.Unrecognized; start = at; end = at }))
-    (at-token : (at : ℕ) (k : Token) (n : ℕ) → scan (drop at t) ≡ Hit k n → skipped k ≡ false → P at (record { what = W.Token k; start = at; end = at + n }))
-    (past : (at : ℕ) (k : Token) (n : ℕ) → scan (drop at t) ≡ Hit k n → skipped k ≡ true → P (at + n) (piece_at t (at + n)) → P at (piece_at t at))
+    (at_miss : (at : ℕ) → at < length t → scan (drop at t) ≡ None → P at (record { what = W.Unrecognized; start = at; end = at }))
+    (at-token : (at : ℕ) (k : Token) (n : ℕ) → scan (drop at t) ≡ Some (k, n) → skipped k ≡ false → P at (record { what = W.Token k; start = at; end = at + n }))
+    (past : (at : ℕ) (k : Token) (n : ℕ) → scan (drop at t) ≡ Some (k, n) → skipped k ≡ true → P (at + n) (piece_at t (at + n)) → P at (piece_at t at))
   where
     -- at each offset further on
     Later : ℕ → Type 0
     Later at = (b : ℕ) → at < b → b ≤ length t → P b (piece_at t b)
 
-    by_kind : (at : ℕ) (k : Token) (n : ℕ) → scan (drop at t) ≡ Hit k n → Later at → (b : Bool) → skipped k ≡ b → P at (piece_at t at)
+    by_kind : (at : ℕ) (k : Token) (n : ℕ) → scan (drop at t) ≡ Some (k, n) → Later at → (b : Bool) → skipped k ≡ b → P at (piece_at t at)
     unfolding Later
     by_kind at k n e l true b = past at k n e b (let f = fits t at k n e in l (at + n) (omega (arith, f.0)) f.1)
     by_kind at k n e l false b = subst (P at) (sym (rw b at (piece_hit t at k n e))) (at-token at k n e b)
 
     by_scan : (at : ℕ) → at < length t → (r : Scan) → scan (drop at t) ≡ r → Later at → P at (piece_at t at)
-    by_scan at h Miss e l = subst (P at) (sym (piece_miss t at h e)) (at_miss at h e)
-    by_scan at h (Hit k n) e l = by_kind at k n e l (skipped k) refl
+    by_scan at h None e l = subst (P at) (sym (piece_miss t at h e)) (at_miss at h e)
+    by_scan at h (Some (k, n)) e l = by_kind at k n e l (skipped k) refl
 
     by_length : (at : ℕ) (b : Bool) → ltb at (length t) ≡ b → Later at → P at (piece_at t at)
     by_length at true e l = by_scan at (ltb-true at (length t) e) (scan (drop at t)) refl l
@@ -123,7 +123,7 @@ piece_again t at =
 -- ---- the lexer's next token
 
 -- the lexer behind n bytes
-moved : (t : List ℕ) (s : Lexer) (k : Token) (n : ℕ) → scan (drop s.at t) ≡ Hit k n → (behind t s k n).at ≡ s.at + n
+moved : (t : List ℕ) (s : Lexer) (k : Token) (n : ℕ) → scan (drop s.at t) ≡ Some (k, n) → (behind t s k n).at ≡ s.at + n
 unfolding behind
 moved t s k n e = pass_at (take n (drop s.at t)) k (drop n (drop s.at t)) s ∙ omega (arith, length-take-le n (drop s.at t) (hit_fits (drop s.at t) k n e).1)
 
@@ -137,22 +137,22 @@ next_at_end t at h s e =
     let n : at + length (drop at t) ≡ at = omega (arith, length-drop at t) in
     rw (next_end t s (omega (arith, e)), n)
 
-next_at_miss : (t : List ℕ) (at : ℕ) → at < length t → scan (drop at t) ≡ Miss → Is-next t at (record { what = W.Unrecognized; start = at; end = at })
+next_at_miss : (t : List ℕ) (at : ℕ) → at < length t → scan (drop at t) ≡ None → Is-next t at (record { what = W.Unrecognized; start = at; end = at })
 unfolding Is-next piece_of_next
 next_at_miss t at h m s e = rw (next_miss t s (omega (arith, e)) (rw e m), e)
 
-next_at_token : (t : List ℕ) (at : ℕ) (k : Token) (n : ℕ) → scan (drop at t) ≡ Hit k n → skipped k ≡ false → Is-next t at (record { what = W.Token k; start = at; end = at + n })
+next_at_token : (t : List ℕ) (at : ℕ) (k : Token) (n : ℕ) → scan (drop at t) ≡ Some (k, n) → skipped k ≡ false → Is-next t at (record { what = W.Token k; start = at; end = at + n })
 unfolding Is-next piece_of_next between span_of behind
 next_at_token t at k n h b s e =
-    let g : scan (drop s.at t) ≡ Hit k n = rw e h in
+    let g : scan (drop s.at t) ≡ Some (k, n) = rw e h in
     let q = behind t s k n in
     let f : next t s ≡ N.On (record { token = k; loc = between s q }) q = rw b at (next_hit t s k n g q refl) in
     rw (f, moved t s k n g, e)
 
-next_past : (t : List ℕ) (at : ℕ) (k : Token) (n : ℕ) → scan (drop at t) ≡ Hit k n → skipped k ≡ true → Is-next t (at + n) (piece_at t (at + n)) → Is-next t at (piece_at t at)
+next_past : (t : List ℕ) (at : ℕ) (k : Token) (n : ℕ) → scan (drop at t) ≡ Some (k, n) → skipped k ≡ true → Is-next t (at + n) (piece_at t (at + n)) → Is-next t at (piece_at t at)
 unfolding Is-next behind
 next_past t at k n h b r s e =
-    let g : scan (drop s.at t) ≡ Hit k n = rw e h in
+    let g : scan (drop s.at t) ≡ Some (k, n) = rw e h in
     let q = behind t s k n in
     let f : next t s ≡ next t q = rw b at (next_hit t s k n g q refl) in
     let m : at + n + length (drop (at + n) t) ≡ at + length (drop at t) = omega (arith, length-drop at t, length-drop (at + n) t, (fits t at k n h).1) in

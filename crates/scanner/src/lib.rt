@@ -2,12 +2,10 @@
 #![tactic(auto)]
 
 ghost use Rattle.std.specs.Prelude.{◌≡◌};
-ghost use Rattle.token.specs.Tables.{tables};
 ghost use Rattle.scanner.specs.Piece.{piece_at};
 ghost use Rattle.scanner.specs.Reader.{opened, read, behind};
 
-use lexer::table;
-use token::{Scan, Token};
+use token::Token;
 
 // A text, and the offset behind what was read of it.
 #[derive(Clone, Copy)]
@@ -16,8 +14,8 @@ pub struct Reader<'a> {
     pub at: usize,
 }
 
-// What stands behind an offset, blanks and line ends passed over.
-#[derive(Clone, Copy)]
+// What stands behind an offset, blanks and line ends passed over. An enum of its own: a Result of an Option would say the same three answers in two layers.
+#[derive(Clone, Copy, Debug, PartialEq, Eq)]
 pub enum What {
     Token(Token),
     // nothing is left
@@ -27,7 +25,7 @@ pub enum What {
 }
 
 // It with its bytes: from `start` on and below `end`. There are none where there is no token.
-#[derive(Clone, Copy)]
+#[derive(Clone, Copy, Debug, PartialEq, Eq)]
 pub struct Piece {
     pub what: What,
     pub start: usize,
@@ -35,14 +33,14 @@ pub struct Piece {
 }
 
 // The first piece of the text from `at` on, one scan after the other.
-fn piece_by(lut: &[u8; 768], text: &[u8], at: usize) -> Piece
-    requires { lut.now ≡ tables }
+fn piece_at(text: &[u8], at: usize) -> Piece
     ensures { result ≡ piece_at text.now at }
 {
     let mut from = at;
+    // a step is a token
     while from < text.len() {
-        let found = scan::scan_token(lut, text, from);
-        let Scan::Hit(token, n) = found else {
+        let found = scan::scan_token(text, from);
+        let Some((token, n)) = found else {
             return Piece {
                 what: What::Unrecognized,
                 start: from,
@@ -65,14 +63,6 @@ fn piece_by(lut: &[u8; 768], text: &[u8], at: usize) -> Piece
         start: from,
         end: from,
     }
-}
-
-// The same by the lexer's own table.
-fn piece_at(text: &[u8], at: usize) -> Piece
-    ensures { result ≡ piece_at text.now at }
-{
-    let lut = table::LUT;
-    piece_by(&lut, text, at)
 }
 
 impl<'a> Reader<'a> {

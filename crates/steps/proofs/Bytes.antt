@@ -25,10 +25,10 @@ use Rattle.lexer.proofs.NextLaws.{next_inside}
 use Rattle.parser.proofs.KindLaws.{code_some}
 use Rattle.steps.specs.declared.packed.Range.{Range}
 use Rattle.steps.specs.declared.state.State.{State}
-use Rattle.steps.specs.declared.state.Parsed.{Parsed}
-use Rattle.steps.specs.declared.state.Parsed.TheVariants.{On}
+use Rattle.std.specs.Prelude.{Ok}
 use Rattle.steps.specs.Packed.{unpacked}
 use Rattle.steps.specs.Into.{
+  Parsed,
   Out,
   done,
   stop,
@@ -162,17 +162,17 @@ module _ {text : List ℕ} where
   pub rested : (m : M) → Rests text m → (st : State) (t u : List ℕ) {st' : State} {t' u' : List ℕ} → done st' t' u' ≡ m st t u → bytes_left text st' ≤ bytes_left text st
   rested m f st t u e = omega (arith, left_by (f st t u) e)
 
-  pub fell : (m : M) → Falls text m → (a : Parsed) (st : State) (t u : List ℕ) (st' : State) (t' u' : List ℕ) → shows a t' u' ≡ m st t u → a ≡ On st'
+  pub fell : (m : M) → Falls text m → (a : Parsed) (st : State) (t u : List ℕ) (st' : State) (t' u' : List ℕ) → shows a t' u' ≡ m st t u → a ≡ Ok st'
       → bytes_left text st' < bytes_left text st
   unfolding shows
   fell m f a st t u st' t' u' e h = omega (arith, left_by (f st t u) (sym (ap (λ (x : Parsed). shows x t' u') h) ∙ e))
 
 -- by the contract, whatever the tables
-pub quiet_left : (text : List ℕ) (m : M) → Falls text m → (a : Parsed) (st st' : State) (t t' : List ℕ) → Quiet m st a t t' → a ≡ On st'
+pub quiet_left : (text : List ℕ) (m : M) → Falls text m → (a : Parsed) (st st' : State) (t t' : List ℕ) → Quiet m st a t t' → a ≡ Ok st'
     → bytes_left text st' < bytes_left text st
 quiet_left text m f a st st' t t' e h = fell m f a st t [] st' t' [] (e []) h
 
-pub still_left : (text : List ℕ) (m : M) → Falls text m → (a : Parsed) (st st' : State) → Still m st a → a ≡ On st' → bytes_left text st' < bytes_left text st
+pub still_left : (text : List ℕ) (m : M) → Falls text m → (a : Parsed) (st st' : State) → Still m st a → a ≡ Ok st' → bytes_left text st' < bytes_left text st
 still_left text m f a st st' e h = fell m f a st [] [] st' [] [] (e [] []) h
 
 -- ---- the steps

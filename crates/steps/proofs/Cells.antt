@@ -1,10 +1,13 @@
 -- Laws of a table's numbers: what the stores of a record write, and what is left to wipe.
-use mathlib.Core.Path.{◌≡◌, sym, ap, ◌∙◌}
+use mathlib.Core.Path.{◌≡◌, refl, sym, ap, ◌∙◌}
 use mathlib.Core.List.{List, [], ◌∷◌, ◌++◌, append-nil, append_assoc}
-use Prim.Native.Nat.{ℕ, suc, ◌+◌, ◌*◌, ◌-◌, ◌/◌, ◌≤◌, ◌<◌}
+use mathlib.Core.Bool.{Bool, true, false, cond}
+use Prim.Native.Nat.{ℕ, min, suc, ◌+◌, ◌*◌, ◌-◌, ◌/◌, ◌≤◌, ◌<◌}
 use native.Mathlib.Omega.{arith}
-use borrow.Author.Tests.{le-leb, lt-leb}
-use lib.ListN.{length, take, drop, set, get_or, replicate, length-set, length-append, length-drop}
+use borrow.Author.Tests.{le-leb, lt-leb, leb-true, leb-false, ltb-true, ltb-false}
+use lib.Dec.{leb, ltb}
+use borrow.Rule.Slice.PartMut.{put_mid}
+use lib.ListN.{drop_of_length-le, length, take, drop, set, get_or, replicate, length-set, length-append, length-drop}
 use lib.Seq.{sets-eq, set_at, drop-cons, length-take-le, take-suc-set, take_all, append_snoc}
 use Rattle.lexer.specs.declared.location.LOC.{LOC}
 use Rattle.ast.specs.Column.{Past}
@@ -12,7 +15,7 @@ use Rattle.ast.specs.Records.{comment_width, node_width, row, node_row, room, cl
 use Rattle.ast.proofs.Counts.{Wide, node_row_width}
 use Rattle.steps.specs.declared.packed.Range.{Range}
 use Rattle.steps.specs.Packed.{unpacked, unpacked_loc}
-use Rattle.steps.specs.Into.{put_row, put, put_owner, wiped}
+use Rattle.steps.specs.Into.{put_row, put, put_owner, wiped, sum, rest_at}
 
 -- nine stores in a row
 stores : (at k p f a b c d e g : ℕ) (t : List ℕ) → at + 9 ≤ length t
@@ -103,3 +106,26 @@ wipe_done i t h = let n : length t - i ≡ 0 = omega arith in rw (n, take_all i 
 pub wipe_all : (t : List ℕ) → wiped 0 t ≡ cleared t
 unfolding wiped cleared
 wipe_all t = let n : length t - 0 ≡ length t = omega arith in rw n
+
+-- a part from an index on that became 0
+pub wipe_part : (n : ℕ) (l ys : List ℕ) → n ≤ length l → ys ≡ replicate (length (take (length l - n) (drop n l))) 0 → put_mid n (length l - n) l ys ≡ wiped n l
+unfolding wiped
+wipe_part n l ys h e =
+    let s : length (drop n l) ≤ length l - n = omega (arith, length-drop n l) in
+    rw (e, take_all (length l - n) (drop n l) s, length-drop n l, drop_of_length-le (drop n l) {i = length l - n} s, append-nil)
+
+pub sum_least : (a b : ℕ) → b ≤ 4294967295 → min (a + b) 4294967295 ≡ sum a b
+unfolding sum
+sum_least a b h = go (leb a (4294967295 - b)) refl
+  where
+    go : (t : Bool) → leb a (4294967295 - b) ≡ t → min (a + b) 4294967295 ≡ cond t (a + b) 4294967295
+    go true e = omega (arith, leb-true a (4294967295 - b) e)
+    go false e = omega (arith, leb-false a (4294967295 - b) e)
+
+pub rest_least : (at len : ℕ) → min at len ≡ rest_at at len
+unfolding rest_at
+rest_least at len = go (ltb at len) refl
+  where
+    go : (t : Bool) → ltb at len ≡ t → min at len ≡ cond t at len
+    go true e = omega (arith, ltb-true at len e)
+    go false e = omega (arith, ltb-false at len e)

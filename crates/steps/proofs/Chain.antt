@@ -11,21 +11,25 @@ use mathlib.Core.List.{List}
 use Prim.Native.Nat.{ℕ}
 use lib.Dec.{eqb}
 use borrow.Author.Tests.{eq-eqb, ne_eqb}
-use Rattle.steps.specs.declared.packed.Range.{Range}
 use Rattle.steps.specs.declared.state.State.{State}
-use Rattle.steps.specs.declared.state.Parsed.{Parsed}
-use Rattle.steps.specs.declared.state.Parsed.TheVariants.{On, Refused}
-use Rattle.steps.specs.Into.{Out, done, M, after, shows, node_in, put_node, refused, refuse_in, advanced, advance_in}
+use Rattle.std.specs.Prelude.{Ok, Err}
+use Rattle.std.specs.Result.{IsErr, IsErrAnd}
+use Rattle.std.proofs.lemmas.Result.{err_from_is_err_and}
+use Rattle.steps.specs.declared.state.Raised.{Raised}
+use Rattle.steps.specs.Into.{Parsed, Out, done, M, after, shows, node_in, put_node, refused, refuse_in, advanced, advance_in}
 
 module _ (W m : Out) (k : M) (w : W ≡ after m k) where
-  pub on : (a : Parsed) (st : State) (t u : List ℕ) → shows a t u ≡ m → a ≡ On st → W ≡ k st t u
+  pub on : (a : Parsed) (st : State) (t u : List ℕ) → shows a t u ≡ m → a ≡ Ok st → W ≡ k st t u
   unfolding after shows
   on a st t u e h = w ∙ ap (λ (x : Out). after x k) (sym e ∙ ap (λ (x : Parsed). shows x t u) h)
 
-  pub off : (a : Parsed) (e : ℕ) (l : Range) (t u : List ℕ) → shows a t u ≡ m → a ≡ Refused e l → (t' u' : List ℕ) → shows a t' u' ≡ W
+  -- a `?` hands the error on
+  pub off : (a b : Parsed) (r : Raised) (t u : List ℕ) → shows a t u ≡ m → a ≡ Err r → IsErr b × IsErrAnd b (λ e. e ≡ r) → (t' u' : List ℕ) → shows b t' u' ≡ W
   unfolding after shows
-  off a e l t u s h t' u' =
-      ap (λ (x : Parsed). shows x t' u') h ∙ sym (w ∙ ap (λ (x : Out). after x k) (sym s ∙ ap (λ (x : Parsed). shows x t u) h))
+  off a b r t u s h f t' u' =
+      let p = err_from_is_err_and b f.1 in
+      let g : b ≡ Err r = cc in
+      ap (λ (x : Parsed). shows x t' u') g ∙ sym (w ∙ ap (λ (x : Out). after x k) (sym s ∙ ap (λ (x : Parsed). shows x t u) h))
 
   pub kept : (st : State) (t u : List ℕ) → done st t u ≡ m → W ≡ k st t u
   unfolding after
@@ -35,7 +39,7 @@ pub last : (W m : Out) (a : Parsed) (t u : List ℕ) → W ≡ m → shows a t u
 last W m a t u w e = e ∙ sym w
 
 pub node : (W : Out) (n k f s b p : ℕ) (st : State) (t u t' : List ℕ) → W ≡ node_in n k f s b p st t u → t' ≡ put_node n k f s b p st t →
-    shows (On st) t' u ≡ W
+    shows (Ok st) t' u ≡ W
 unfolding node_in shows
 node W n k f s b p st t u t' w e = ap (λ (x : List ℕ). done st x u) e ∙ sym w
 
@@ -44,11 +48,11 @@ pub given : (m : M) (x y : State) (o : Out) (t u : List ℕ) → x ≡ y → o �
 given m x y o t u h e = e ∙ ap (λ (z : State). m z t u) h
 
 -- the state that is returned, or that the last step returned
-pub ret : (W : Out) (st : State) (t u : List ℕ) → W ≡ done st t u → shows (On st) t u ≡ W
+pub ret : (W : Out) (st : State) (t u : List ℕ) → W ≡ done st t u → shows (Ok st) t u ≡ W
 unfolding shows
 ret W st t u w = sym w
 
-pub ends : (W m : Out) (st : State) (t u : List ℕ) → W ≡ m → done st t u ≡ m → shows (On st) t u ≡ W
+pub ends : (W m : Out) (st : State) (t u : List ℕ) → W ≡ m → done st t u ≡ m → shows (Ok st) t u ≡ W
 unfolding shows
 ends W m st t u w e = e ∙ sym w
 
@@ -77,7 +81,7 @@ noted n k f s b p st t u t' e = ap (λ (x : List ℕ). done st x u) e
 
 -- the same where the flags and the start were computed by calls
 pub node_by : (W : Out) (n k f s b p : ℕ) (st : State) (t u t' : List ℕ) (g r : ℕ) → W ≡ node_in n k f s b p st t u →
-    t' ≡ put_node n k g r b p st t → g ≡ f → r ≡ s → shows (On st) t' u ≡ W
+    t' ≡ put_node n k g r b p st t → g ≡ f → r ≡ s → shows (Ok st) t' u ≡ W
 node_by W n k f s b p st t u t' g r w e h i =
     node W n k f s b p st t u t' w (e ∙ ap₂ (λ (x y : ℕ). put_node n k x y b p st t) h i)
 
@@ -87,6 +91,6 @@ unfolding advance_in
 done_by W text st st' t u w e = ap (λ (x : State). done x t u) e ∙ sym w
 
 -- the state that is returned, by what it is
-pub ends_at : (W : Out) (st st' : State) (t u : List ℕ) → W ≡ done st t u → st' ≡ st → shows (On st') t u ≡ W
+pub ends_at : (W : Out) (st st' : State) (t u : List ℕ) → W ≡ done st t u → st' ≡ st → shows (Ok st') t u ≡ W
 unfolding shows
 ends_at W st st' t u w e = ap (λ (x : State). done x t u) e ∙ sym w

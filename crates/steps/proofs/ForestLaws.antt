@@ -4,7 +4,7 @@
 --     perhaps_plus, each_plus, throws_plus    the parts of each tree as forests of their own
 use mathlib.Core.Path.{◌≡◌, refl, ap}
 use mathlib.Core.List.{List, [], ◌∷◌, ◌++◌, append_assoc}
-use mathlib.Core.Option.{Option, some, none}
+use Rattle.std.specs.Prelude.{Option, Some, None}
 use Prim.Native.Nat.{ℕ, ◌+◌}
 use native.Mathlib.Omega.{arith}
 use native.Mathlib.Nat.{add-zero}
@@ -52,8 +52,8 @@ notes_plus (grown t f) g n =
 
 pub perhaps_plus : {A : Type 0} (f : A → Tree) (o : Option A) (r : Forest) → perhaps f o bare ⊕ r ≡ perhaps f o r
 unfolding perhaps
-perhaps_plus f none r = refl
-perhaps_plus f (some x) r = refl
+perhaps_plus f None r = refl
+perhaps_plus f (Some x) r = refl
 
 pub each_plus : {A : Type 0} (f : A → Tree) (xs : List A) (r : Forest) → each f xs bare ⊕ r ≡ each f xs r
 unfolding each
@@ -62,5 +62,5 @@ each_plus f (x ∷ xs) r = ap (grown (f x)) (each_plus f xs r)
 
 pub throws_plus : (o : Option (List Field)) (r : Forest) → throws_trees o bare ⊕ r ≡ throws_trees o r
 unfolding throws_trees
-throws_plus none r = refl
-throws_plus (some fs) r = each_plus _ fs r
+throws_plus None r = refl
+throws_plus (Some fs) r = each_plus _ fs r

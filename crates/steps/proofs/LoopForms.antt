@@ -15,9 +15,8 @@ use native.Mathlib.Omega.{arith}
 use lib.ListN.{length}
 use borrow.Author.Tests.{eq-eqb, ne_eqb}
 use Rattle.steps.specs.declared.state.State.{State}
-use Rattle.steps.specs.declared.state.Parsed.{Parsed}
-use Rattle.steps.specs.declared.state.Parsed.TheVariants.{On}
-use Rattle.steps.specs.Into.{M, Out, after, bytes_left, closes_at, done, loop_in, passed, refuse_in, shows, skip_in, turns_in}
+use Rattle.std.specs.Prelude.{Ok}
+use Rattle.steps.specs.Into.{Parsed, M, Out, after, bytes_left, closes_at, done, loop_in, passed, refuse_in, shows, skip_in, turns_in}
 use Rattle.steps.proofs.Bytes.{Falls, Rests, weak_w, after_w, cond_w, after_same, refused_w, rested, fell}
 
 pub record Looping (text : List ℕ) (closing : State → Bool) (skips shut member : M) (t₀ u₀ : List ℕ) (st₀ : State) (t u : List ℕ) (st : State) : Type 0 where
@@ -76,7 +75,7 @@ module _ (text : List ℕ) (closing : State → Bool) (skips shut member : M) (r
 -- a turn leaves fewer bytes
 module _ (text : List ℕ) (skips member : M) (rests : Rests text skips) (falls : Falls text member) where
   pub turn_falls : (a : Parsed) (st : State) (t u : List ℕ) (st₁ : State) (t₁ u₁ : List ℕ) (st₂ : State) (t₂ u₂ : List ℕ)
-      → done st₁ t₁ u₁ ≡ skips st t u → shows a t₂ u₂ ≡ member st₁ t₁ u₁ → a ≡ On st₂ → bytes_left text st₂ < bytes_left text st
+      → done st₁ t₁ u₁ ≡ skips st t u → shows a t₂ u₂ ≡ member st₁ t₁ u₁ → a ≡ Ok st₂ → bytes_left text st₂ < bytes_left text st
   turn_falls a st t u st₁ t₁ u₁ st₂ t₂ u₂ e f g = omega (arith, rested skips rests st t u e, fell member falls a st₁ t₁ u₁ st₂ t₂ u₂ f g)
 
 module _ (W A B : Out) (k : ℕ) (st : State) (w : W ≡ cond (closes_at k st) A B) where

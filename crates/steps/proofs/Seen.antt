@@ -11,7 +11,7 @@
 use mathlib.Core.Path.{◌≡◌, refl, sym, ap, ◌∙◌}
 use mathlib.Core.Bool.{Bool, true, false, not, cond}
 use mathlib.Core.List.{List, [], ◌∷◌, ◌++◌}
-use mathlib.Core.Option.{some, none}
+use Rattle.std.specs.Prelude.{Some, None}
 use Prim.Native.Nat.{ℕ, suc, ◌+◌, ◌*◌, ◌-◌, ◌≤◌, ◌<◌}
 use native.Mathlib.Omega.{arith}
 use borrow.Author.Tests.{le-ltb, lt-ltb, le-leb}
@@ -203,8 +203,8 @@ regrown e h = rw e at h
 
 -- the number that the code's steps carry: with no token left 3
 abbrev pub number : Raised → ℕ
-number (raise e none) = UnexpectedEOF
-number (raise e (some t)) = e
+number (raise e None) = UnexpectedEOF
+number (raise e (Some t)) = e
 
 pub data Meant {A : Type 0} (Q : A → State → List ℕ → List ℕ → St → Type 0) : Out → Res A → Type 0 where
   went : {a : A} {st : State} {t u : List ℕ} {s : St} → Q a st t u s → Meant Q (done st t u) (ok a s)
@@ -241,7 +241,7 @@ pub within_m : {A : Type 0} {Q : A → State → List ℕ → List ℕ → St �
 within_m (went q) (within h) = went (q, h)
 within_m halted h = halted
 
-pub next_none : {A : Type 0} (k : Lexeme → P A) (l : LOC) (c : List Lexeme) → bind (next (pos l c [])) k ≡ no (raise UnexpectedEOF none) l
+pub next_none : {A : Type 0} (k : Lexeme → P A) (l : LOC) (c : List Lexeme) → bind (next (pos l c [])) k ≡ no (raise UnexpectedEOF None) l
 unfolding next bind
 next_none k l c = refl
 
@@ -260,10 +260,10 @@ module _ {A : Type 0} {Q : A → State → List ℕ → List ℕ → St → Type
   unless_m p q s c false e f g = rw e (g refl)
 
   -- where no token is left both refuse alike, whatever is raised there
-  gone : (k e : ℕ) {o : Out} {l : LOC} → Meant Q o (no (raise k none) l) → Meant Q o (no (raise e none) l)
+  gone : (k e : ℕ) {o : Out} {l : LOC} → Meant Q o (no (raise k None) l) → Meant Q o (no (raise e None) l)
   gone k e halted = halted
 
-  pub needs_m : (k e : ℕ) (p : P A) {o : Out} (s : St) → ((l : LOC) (c : List Lexeme) → p (pos l c []) ≡ no (raise k none) l) → Meant Q o (p s)
+  pub needs_m : (k e : ℕ) (p : P A) {o : Out} (s : St) → ((l : LOC) (c : List Lexeme) → p (pos l c []) ≡ no (raise k None) l) → Meant Q o (p s)
       → Meant Q o (needs e p s)
   needs_m k e p (pos l c []) z h = gone k e (rw (z l c) at h)
   needs_m k e p (pos l c (t ∷ ts)) z h = h

@@ -7,7 +7,6 @@ use Rattle.lexer.specs.Limit.{limit}
 use Rattle.ast.specs.Column as C
 use Rattle.ast.specs.Kind as K
 use Rattle.token.specs.Code.{code}
-use Rattle.token.specs.Tables.{tables}
 use Rattle.lexer.specs.declared.location.Lexer.{Lexer}
 use Rattle.lexer.specs.declared.location.Span.{Span}
 use Rattle.lexer.specs.declared.location.LOC.{LOC}
@@ -20,13 +19,14 @@ use Rattle.parser.specs.Definitions.{is_id}
 use Rattle.steps.specs.declared.packed.Range.{Range}
 use Rattle.steps.specs.declared.Found.{Found}
 use Rattle.steps.specs.declared.state.State.{State}
-use Rattle.steps.specs.declared.state.Parsed.{Parsed}
-use Rattle.steps.specs.declared.state.Parsed.TheVariants.{On, Refused}
+use Rattle.steps.specs.declared.state.Raised.{Raised}
+use Rattle.std.specs.Prelude.{Ok, Err}
+use Rattle.std.specs.declared.result.Result.{Result}
+use Rattle.lexer.specs.Refusal.{number_of}
 use Rattle.steps.specs.Packed.{packed, unpacked, unpacked_loc}
 
--- what every reader is lent: the lexer's table, and a text that passed 20
-pub record Lent (lut text : List ℕ) : Type 0 where
-  pub tabled : lut ≡ tables
+-- what every reader is lent: a text that passed 20
+pub record Lent (text : List ℕ) : Type 0 where
   pub short : length text ≤ limit
 
 -- the kind where no token is left
@@ -50,9 +50,12 @@ abbrev pub ◌⨟◌ : M → M → M
 ◌⨟◌ m k = λ st t u. after (m st t u) k
 
 -- what the code's answer shows
+abbrev pub Parsed : Type 0
+Parsed = Result State Raised
+
 unfoldable pub shows : Parsed → List ℕ → List ℕ → Out
-shows (On st) t u = done st t u
-shows (Refused n l) t u = stop n l
+shows (Ok st) t u = done st t u
+shows (Err r) t u = stop (number_of r.kind) r.loc
 
 -- the contracts of a reader that is lent both tables, the node table, none
 abbrev pub Reads : M → State → Parsed → List ℕ → List ℕ → List ℕ → List ℕ → Type 0

@@ -1,5 +1,5 @@
 // Rust's parse::<u64> on the bytes of an integer: a leading `+` is allowed, a `-` is not.
-ghost use Rattle.std.specs.Prelude.{◌≡◌, ◌-◌, ◌^◌, ltb};
+ghost use Rattle.std.specs.Prelude.{◌≡◌, ◌^◌, cond, ltb};
 ghost use Rattle.parser.specs.Definitions.{decimal, is_id};
 ghost use Rattle.steps.specs.Into.{is_id_at};
 ghost use Rattle.steps.specs.Packed.{unpacked_loc};
@@ -7,47 +7,30 @@ ghost use Rattle.steps.specs.Packed.{unpacked_loc};
 use crate::packed;
 use crate::packed::Range;
 
-// The number of a digit.
-fn digit(byte: u8) -> u64
-    ensures { result ≡ byte - 48 }
-{
-    if byte < 48 { 0 } else { (byte - 48) as u64 }
-}
-
-// Whether the digits are a number below 2 to the 64th.
-fn is_number(digits: &[u8]) -> bool
-    ensures { result ≡ ltb (decimal 0 digits.now) (2 ^ 64) }
+// The number of the digits, if it is below 2 to the 64th.
+#[tactic(auto, using(crate::proofs::Digits::turns))]
+fn number(digits: &[u8]) -> Option<u64>
+    ensures { result ≡ cond (ltb (decimal 0 digits.now) (2 ^ 64)) (Some (decimal 0 digits.now)) None }
 {
     let mut value: u64 = 0;
-    let mut i = 0;
-    while i < digits.len() {
-        let one = digit(digits[i]);
-        if 1844674407370955161 < value {
-            return false;
-        }
-        let ten = value * 10;
-        if 18446744073709551615 - one < ten {
-            return false;
-        }
-        value = ten + one;
-        i += 1;
+    for &digit in digits {
+        let one = digit.saturating_sub(b'0');
+        value = value.checked_mul(10)?.checked_add(one as u64)?;
     }
-    true
+    Some(value)
 }
 
 fn is_id(bytes: &[u8]) -> bool
     ensures { result ≡ is_id bytes.now }
 {
-    if bytes.len() == 0 {
+    if bytes.is_empty() {
         return false;
     }
-    if bytes[0] == 45 {
-        return false;
+    match bytes[0] {
+        b'-' => false,
+        b'+' => number(&bytes[1..]).is_some(),
+        _ => number(bytes).is_some(),
     }
-    if bytes[0] == 43 {
-        return is_number(&bytes[1..]);
-    }
-    is_number(bytes)
 }
 
 // Whether the token at this place is an id.

@@ -7,29 +7,23 @@ pub mod packed;
 pub mod state;
 pub mod table;
 
-ghost use Rattle.std.specs.Prelude.{◌≡◌, ◌-◌};
+ghost use Rattle.std.specs.Prelude.{◌≡◌};
 ghost use Rattle.steps.specs.Into.{Lent, lexer_at, found_at, is_separator, is_comment, passes};
 ghost use Rattle.steps.specs.Packed.{unpacked};
 
 use crate::state::NONE;
 use lexer::location::{Lexer, Next};
 
-// The difference, 0 where it would be below.
-fn less(a: u32, b: u32) -> u32
-    ensures { result ≡ a - b }
-{
-    if a < b { 0 } else { a - b }
-}
-
 // The lexer that stands at a place.
+#[tactic(auto, unfolding(crate::specs::Into::lexer_at))]
 fn lexer_at(place: u64) -> Lexer
     ensures { result ≡ lexer_at (unpacked place) }
 {
     let at = packed::index_of(place);
     Lexer {
         at,
-        line: less(packed::line_of(place), 1),
-        origin: less(at, less(packed::column_of(place), 1)),
+        line: packed::line_of(place).saturating_sub(1),
+        origin: at.saturating_sub(packed::column_of(place).saturating_sub(1)),
     }
 }
 
@@ -42,8 +36,8 @@ pub struct Found {
 }
 
 // The token behind a place; none where the place is in no text.
-pub fn look(lut: &[u8; 768], text: &[u8], place: u64) -> Found
-    requires { Lent lut.now text.now }
+pub fn look(text: &[u8], place: u64) -> Found
+    requires { Lent text.now }
     ensures { result ≡ found_at text.now place }
 {
     let none = Found {
@@ -58,7 +52,7 @@ pub fn look(lut: &[u8; 768], text: &[u8], place: u64) -> Found
     if from.at < from.line {
         return none;
     }
-    let next = lexer::next_token(lut, text, from);
+    let next = lexer::next_token(text, from);
     match next {
         Next::On(token, _) => {
             let kind = token.token;

@@ -8,7 +8,7 @@ use lexer::location::Span;
 const UNIT: u64 = 1048576;
 
 // A LOC, each of its places in 64 bits.
-#[derive(Clone, Copy)]
+#[derive(Clone, Copy, Debug, PartialEq, Eq)]
 pub struct Range {
     pub start: u64,
     pub end: u64,

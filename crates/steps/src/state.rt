@@ -1,13 +1,14 @@
 // The parser by value, rico's Parser without its tree: its steps over tokens (parser/token.rs) and over records.
 ghost use Rattle.std.specs.Prelude.{◌≡◌};
+ghost use Rattle.lexer.specs.Refusal.{number_of};
 ghost use Rattle.steps.specs.Into.{Keeps, Lent, Puts, Still, advanced, ahead_of, refuse_in, start_at, take_in, expect_in, passed, wait_in, skip_comments_in, own_in, opened, leaf_in, place_of, put_node};
 
 use crate::packed::Range;
 use crate::{Found, table};
-use lexer::error;
+use lexer::error::ErrorKind;
 
 // The lexer stands at the end of the token ahead.
-#[derive(Clone, Copy)]
+#[derive(Clone, Copy, Debug, PartialEq, Eq)]
 pub struct State {
     // where the token ahead stands; where none is left, the last one
     pub loc: Range,
@@ -26,15 +27,18 @@ pub struct State {
 // The kind where no token is left.
 pub const NONE: u32 = 255;
 
-// What a reader leaves: the state behind what it read, or document 01's number and the token's place.
-#[derive(Clone, Copy)]
-pub enum Parsed {
-    On(State),
-    Refused(u32, Range),
+// A refusal, and the place of the token that it is at.
+#[derive(Clone, Copy, Debug, PartialEq, Eq)]
+pub struct Raised {
+    pub kind: ErrorKind,
+    pub loc: Range,
 }
 
+// What a reader leaves: the state behind what it read, or a refusal.
+pub type Parsed = Result<State, Raised>;
+
 // The node that others are read under.
-#[derive(Clone, Copy)]
+#[derive(Clone, Copy, Debug, PartialEq, Eq)]
 pub struct Parent {
     // the number of the first record in the table that is lent
     pub base: u32,
@@ -44,14 +48,11 @@ pub struct Parent {
 
 impl Parent {
     // Where node `number` stands in that table.
+    #[tactic(auto, unfolding(crate::specs::Into::place_of))]
     fn place_of(self, number: u32) -> usize
         ensures { result ≡ place_of self.base number }
     {
-        if number < self.base {
-            0
-        } else {
-            (number - self.base) as usize
-        }
+        number.saturating_sub(self.base) as usize
     }
 }
 
@@ -72,33 +73,35 @@ impl State {
             kind: found.kind,
             loc,
             last,
-            next: self.next,
-            owned: self.owned,
-            waiting: self.waiting,
+            ..self
         }
     }
 
     // advance
-    pub fn advance(self, lut: &[u8; 768], text: &[u8]) -> State
-        requires { Lent lut.now text.now }
+    pub fn advance(self, text: &[u8]) -> State
+        requires { Lent text.now }
         ensures { result ≡ advanced text.now self }
     {
         let loc = self.loc;
         let end = loc.end;
-        let found = crate::look(lut, text, end);
+        let found = crate::look(text, end);
         self.ahead(found)
     }
 
     // A refusal at the token ahead; with none left 3 at the last one, which the end rule makes 3 or 1.
-    pub fn refuse(self, number: u32) -> Parsed
-        ensures { Still (refuse_in number) self result }
+    pub fn refuse(self, kind: ErrorKind) -> Parsed
+        ensures { Still (refuse_in (number_of kind)) self result }
     {
         if self.kind == NONE {
-            let last = self.last;
-            return Parsed::Refused(error::UNEXPECTED_EOF, last);
+            return Err(Raised {
+                kind: ErrorKind::UnexpectedEOF,
+                loc: self.last,
+            });
         }
-        let loc = self.loc;
-        Parsed::Refused(number, loc)
+        Err(Raised {
+            kind,
+            loc: self.loc,
+        })
     }
 
     // start_pos: where the token ahead starts.
@@ -115,78 +118,66 @@ impl State {
     }
 
     // The token ahead, whatever it is.
-    pub fn take(self, lut: &[u8; 768], text: &[u8]) -> Parsed
-        requires { Lent lut.now text.now }
+    pub fn take(self, text: &[u8]) -> Parsed
+        requires { Lent text.now }
         ensures { Still (take_in text.now) self result }
     {
         if self.kind == NONE {
-            return self.refuse(error::UNEXPECTED_EOF);
+            return self.refuse(ErrorKind::UnexpectedEOF);
         }
-        Parsed::On(self.advance(lut, text))
+        Ok(self.advance(text))
     }
 
     // expect_token, consume: a token of one kind, or a refusal.
-    pub fn expect(self, lut: &[u8; 768], text: &[u8], kind: u32, number: u32) -> Parsed
-        requires { Lent lut.now text.now }
-        ensures { Still (expect_in text.now kind number) self result }
+    pub fn expect(self, text: &[u8], kind: u32, error: ErrorKind) -> Parsed
+        requires { Lent text.now }
+        ensures { Still (expect_in text.now kind (number_of error)) self result }
     {
         if self.kind == kind {
-            return self.take(lut, text);
+            return self.take(text);
         }
-        self.refuse(number)
+        self.refuse(error)
     }
 
     // skip_separator (`separators`), skip_comments_discard (else). The usual case, nothing to skip, is apart from the loop, so that it copies no state.
-    pub fn skip(self, lut: &[u8; 768], text: &[u8], separators: bool) -> State
-        requires { Lent lut.now text.now }
+    pub fn skip(self, text: &[u8], separators: bool) -> State
+        requires { Lent text.now }
         ensures { result ≡ passed text.now separators self }
     {
         if crate::passes(self.kind, separators) {
-            return self.skip_all(lut, text, separators);
+            return self.skip_all(text, separators);
         }
         self
     }
 
     // The loop itself, for where there usually is something to skip.
-    pub fn skip_all(self, lut: &[u8; 768], text: &[u8], separators: bool) -> State
-        requires { Lent lut.now text.now }
+    pub fn skip_all(self, text: &[u8], separators: bool) -> State
+        requires { Lent text.now }
         ensures { result ≡ passed text.now separators self }
     {
         let mut state = self;
         while crate::passes(state.kind, separators) {
-            state = state.advance(lut, text);
+            state = state.advance(text);
         }
         state
     }
 
     // skip_comments, and with `separators` skip_trivia: the comments wait. The usual case is apart from the loop here too.
-    pub fn skip_comments(
-        self,
-        lut: &[u8; 768],
-        text: &[u8],
-        separators: bool,
-        comments: &mut [u32],
-    ) -> State
-        requires { Lent lut.now text.now }
+    pub fn skip_comments(self, text: &[u8], separators: bool, comments: &mut [u32]) -> State
+        requires { Lent text.now }
         ensures { Keeps (skip_comments_in text.now separators) self result comments.old comments.new }
     {
         if separators {
-            return self.skip_all_comments(lut, text, separators, comments);
+            return self.skip_all_comments(text, separators, comments);
         }
         if crate::is_comment(self.kind) {
-            return self.skip_all_comments(lut, text, separators, comments);
+            return self.skip_all_comments(text, separators, comments);
         }
         self
     }
 
-    fn skip_all_comments(
-        self,
-        lut: &[u8; 768],
-        text: &[u8],
-        separators: bool,
-        comments: &mut [u32],
-    ) -> State
-        requires { Lent lut.now text.now }
+    fn skip_all_comments(self, text: &[u8], separators: bool, comments: &mut [u32]) -> State
+        requires { Lent text.now }
         ensures { Keeps (skip_comments_in text.now separators) self result comments.old comments.new }
     {
         let mut state = self;
@@ -201,7 +192,7 @@ impl State {
                     return state;
                 }
             }
-            state = state.advance(lut, text);
+            state = state.advance(text);
         }
     }
 
@@ -214,7 +205,6 @@ impl State {
             kind = ast::kind::LINE_COMMENT;
         }
         let loc = self.loc;
-        let last = self.last;
         table::put_comment(
             comments,
             self.owned as usize + self.waiting as usize,
@@ -222,12 +212,8 @@ impl State {
             loc,
         );
         State {
-            kind: self.kind,
-            loc,
-            last,
-            next: self.next,
-            owned: self.owned,
             waiting: ast::bump(self.waiting),
+            ..self
         }
     }
 
@@ -236,21 +222,13 @@ impl State {
         ensures { Keeps (own_in owner) self result comments.old comments.new }
     {
         let first = self.owned as usize;
-        let count = self.waiting as usize;
-        let mut i = 0;
-        while i < count {
+        for i in 0..self.waiting as usize {
             table::put_owner(comments, first + i, owner);
-            i += 1;
         }
-        let loc = self.loc;
-        let last = self.last;
         State {
-            kind: self.kind,
-            loc,
-            last,
-            next: self.next,
             owned: table::sum(self.owned, self.waiting),
             waiting: 0,
+            ..self
         }
     }
 
@@ -258,15 +236,9 @@ impl State {
     pub fn open(self) -> State
         ensures { result ≡ opened self }
     {
-        let loc = self.loc;
-        let last = self.last;
         State {
-            kind: self.kind,
-            loc,
-            last,
             next: ast::bump(self.next),
-            owned: self.owned,
-            waiting: self.waiting,
+            ..self
         }
     }
 

@@ -9,14 +9,11 @@ use crate::packed::Range;
 use ast::column;
 
 // The sum of two counts; never past the largest number.
+#[tactic(auto, using(crate::proofs::Cells::sum_least))]
 pub fn sum(a: u32, b: u32) -> u32
     ensures { result ≡ sum a b }
 {
-    if a <= ast::LARGEST - b {
-        a + b
-    } else {
-        ast::LARGEST
-    }
+    a.saturating_add(b)
 }
 
 // The nine numbers that every record has, from an index on.
@@ -76,20 +73,18 @@ pub fn put_owner(comments: &mut [u32], index: usize, owner: u32)
 }
 
 // Where the rest of a table of so many numbers starts: at an index, or at the table's end.
+#[tactic(auto, using(crate::proofs::Cells::rest_least))]
 pub fn rest_at(at: usize, len: usize) -> usize
     ensures { (result ≡ rest_at at len) × (result ≤ len) }
 {
-    if at < len { at } else { len }
+    at.min(len)
 }
 
 // A table's numbers become 0 from an index on.
+#[tactic(auto, using(crate::proofs::Cells::wipe_part))]
 pub fn clear(table: &mut [u32], from: usize)
     requires { from ≤ length table.old }
     ensures { table.new ≡ wiped from table.old }
 {
-    let mut i = from;
-    while i < table.len() {
-        table[i] = 0;
-        i += 1;
-    }
+    table[from..].fill(0);
 }

@@ -1,4 +1,4 @@
--- Kinds of tokens by their numbers: kinds of one number are one (`same_kind`).
+-- Kinds of tokens by their numbers: kinds of one number are one (`same_kind`, `same_code`).
 use mathlib.Core.Path.{◌≡◌, refl, sym, ap, ◌∙◌}
 use mathlib.Core.Bool.{true}
 use mathlib.Core.List.{List, [], ◌∷◌}
@@ -76,3 +76,6 @@ kind_at T.Blank = refl
 pub same_kind : (k j : Token) → is k j ≡ true → k ≡ j
 unfolding is
 same_kind k j h = sym (kind_at k) ∙ ap (λ (n : ℕ). get_or kinds n T.Blank) (eqb-true (code k) (code j) h) ∙ kind_at j
+
+pub same_code : (k j : Token) → code k ≡ code j → k ≡ j
+same_code k j h = sym (kind_at k) ∙ ap (λ (n : ℕ). get_or kinds n T.Blank) h ∙ kind_at j

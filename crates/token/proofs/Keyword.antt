@@ -17,7 +17,7 @@ use Rattle.token.specs.Match.{In, First, Longest}
 use Rattle.token.specs.Scan.{scan}
 use Rattle.token.specs.Words.{same}
 use Rattle.token.specs.declared.Token.{Token}
-use Rattle.token.specs.declared.Scan.TheVariants.{Hit}
+use Rattle.std.specs.Prelude.{Some}
 use Rattle.token.proofs.Truth.{T_true}
 use Rattle.token.proofs.Every.{both, both_left, both_right}
 use Rattle.token.proofs.Words.{same_eq}
@@ -72,5 +72,5 @@ unfolding rules
 keyword_bytes v w k o n f = only_first words rest v w k o n f
 
 -- what is scanned is the first rule's that has it
-pub hit_first : (t : List ℕ) (k : Token) (n : ℕ) → scan t ≡ Hit k n → First rules (take n t) k
-hit_first t k n e = let l : Longest t (Hit k n) = subst (Longest t) e (scan_longest t) in l.2
+pub hit_first : (t : List ℕ) (k : Token) (n : ℕ) → scan t ≡ Some (k, n) → First rules (take n t) k
+hit_first t k n e = let l : Longest t (Some (k, n)) = subst (Longest t) e (scan_longest t) in l.2

@@ -7,10 +7,10 @@ pub mod Classes
 pub mod Reach
 pub mod Words
 pub mod WordNumber
-pub mod Tables
 pub mod Matching
 pub mod Meaning
 pub mod Stable
 pub mod Examples
 pub mod Keyword
 pub mod Pattern
+pub mod Pairs

@@ -3,7 +3,7 @@ use mathlib.Core.Path.{◌≡◌, refl, sym, ap, ◌∙◌}
 use mathlib.Core.Logic.{◌⊎◌, inl, inr, ⊎_elim, ◌↔◌}
 use mathlib.Core.Bool.{Bool, true, false, cond, ◌&&◌, ◌||◌}
 use mathlib.Core.List.{List, [], ◌∷◌, ◌++◌, append_assoc}
-use mathlib.Core.Option.{Option, some, none}
+use Rattle.std.specs.Prelude.{Option, Some, None}
 use Prim.Native.Nat.{ℕ}
 use native.Mathlib.Omega.{arith}
 use lib.Dec.{T}
@@ -12,7 +12,7 @@ use Rattle.token.proofs.Truth.{T_false}
 use Rattle.token.specs.Patterns.{Rule, rule}
 use Rattle.token.specs.Scan.{derivs, first}
 use Rattle.token.specs.Automaton.{after}
-use Rattle.token.specs.Match.{Star, stop, more, In, None, First}
+use Rattle.token.specs.Match.{Star, stop, more, In, MatchesNone, First}
 use Rattle.token.specs.declared.Token.{Token}
 
 nil_not_cons : {c : ℕ} {w : List ℕ} → c ∷ w ≡ [] → ⊥
@@ -146,8 +146,8 @@ matching (c ∷ w) r = (λ t. (deriv_in r c w).0 ((matching w (deriv c r)).0 t),
 
 -- the kind of the first rule that p matches as a whole
 unfoldable pub first_by : List Rule → List ℕ → Option Token
-first_by [] p = none
-first_by (rule k r ∷ rs) p = cond (nullable (left r p)) (some k) (first_by rs p)
+first_by [] p = None
+first_by (rule k r ∷ rs) p = cond (nullable (left r p)) (Some k) (first_by rs p)
 
 first_step : (c : ℕ) (p : List ℕ) (rs : List Rule) → first_by rs (c ∷ p) ≡ first_by (derivs c rs) p
 unfolding first_by derivs left
@@ -155,30 +155,30 @@ first_step c p [] = refl
 first_step c p (rule k r ∷ rs) = rw (first_step c p rs) (go (is_nothing (deriv c r)) refl)
   where
     go : (b : Bool) → is_nothing (deriv c r) ≡ b
-        → cond (nullable (left (deriv c r) p)) (some k) (first_by (derivs c rs) p) ≡ first_by (cond b (derivs c rs) (rule k (deriv c r) ∷ derivs c rs)) p
+        → cond (nullable (left (deriv c r) p)) (Some k) (first_by (derivs c rs) p) ≡ first_by (cond b (derivs c rs) (rule k (deriv c r) ∷ derivs c rs)) p
     go true e = rw (T_false (nullable (left (deriv c r) p)) (λ t. is_nothing_law (deriv c r) p e ((matching p (deriv c r)).0 t)))
     go false e = refl
 
 pub first_by_law : (p : List ℕ) (rs : List Rule) → first (after rs p) ≡ first_by rs p
 unfolding after first first_by left
 first_by_law [] [] = refl
-first_by_law [] (rule k r ∷ rs) = ap (cond (nullable r) (some k)) (first_by_law [] rs)
+first_by_law [] (rule k r ∷ rs) = ap (cond (nullable r) (Some k)) (first_by_law [] rs)
 first_by_law (c ∷ p) rs = first_by_law p (derivs c rs) ∙ sym (first_step c p rs)
 
-pub first_none : (rs : List Rule) (p : List ℕ) → first_by rs p ≡ none → None rs p
+pub first_none : (rs : List Rule) (p : List ℕ) → first_by rs p ≡ None → MatchesNone rs p
 unfolding first_by
 first_none [] p e = tt
 first_none (rule k r ∷ rs) p e = go (nullable (left r p)) refl e (first_none rs p)
   where
-    go : (b : Bool) → nullable (left r p) ≡ b → cond b (some k) (first_by rs p) ≡ none → (first_by rs p ≡ none → None rs p) → None (rule k r ∷ rs) p
+    go : (b : Bool) → nullable (left r p) ≡ b → cond b (Some k) (first_by rs p) ≡ None → (first_by rs p ≡ None → MatchesNone rs p) → MatchesNone (rule k r ∷ rs) p
     go true f h ih = let z : ◌≡◌ {A = ℕ} 0 1 = cc in absurd (omega arith)
     go false f h ih = (λ m. rw f at ((matching p r).1 m), ih h)
 
-pub first_some : (rs : List Rule) (p : List ℕ) (q : Token) → first_by rs p ≡ some q → First rs p q
+pub first_some : (rs : List Rule) (p : List ℕ) (q : Token) → first_by rs p ≡ Some q → First rs p q
 unfolding first_by
 first_some [] p q e = let z : ◌≡◌ {A = ℕ} 0 1 = cc in absurd (omega arith)
 first_some (rule k r ∷ rs) p q e = go (nullable (left r p)) refl e (first_some rs p q)
   where
-    go : (b : Bool) → nullable (left r p) ≡ b → cond b (some k) (first_by rs p) ≡ some q → (first_by rs p ≡ some q → First rs p q) → First (rule k r ∷ rs) p q
+    go : (b : Bool) → nullable (left r p) ≡ b → cond b (Some k) (first_by rs p) ≡ Some q → (first_by rs p ≡ Some q → First rs p q) → First (rule k r ∷ rs) p q
     go true f h ih = inl ((matching p r).0 (rw f tt), cc)
     go false f h ih = inr (λ m. rw f at ((matching p r).1 m), ih h)

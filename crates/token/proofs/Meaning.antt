@@ -2,7 +2,7 @@
 --     scan_longest  for every text
 use mathlib.Core.Path.{◌≡◌, refl, sym, ap, ◌∙◌}
 use mathlib.Core.Logic.{⊎_elim}
-use mathlib.Core.Option.{Option, some, none}
+use Rattle.std.specs.Prelude.{Option, Some, None}
 use mathlib.Core.List.{List, [], ◌∷◌, ◌++◌, append_assoc, append-nil}
 use Prim.Native.Nat.{ℕ, suc, ◌<◌, ◌≤◌}
 use native.Mathlib.Omega.{arith}
@@ -14,8 +14,7 @@ use Rattle.token.specs.Scan.{derivs, first, keep, scan_from, scan}
 use Rattle.token.specs.Match.{NoneBeyond, Longest}
 use Rattle.token.specs.Automaton.{after}
 use Rattle.token.specs.declared.Token.{Token}
-use Rattle.token.specs.declared.Scan.{Scan}
-use Rattle.token.specs.declared.Scan.TheVariants.{Miss, Hit}
+use Rattle.token.specs.Scanned.{Scan}
 use Rattle.token.proofs.Matching.{first_by_law, first_none, first_some}
 use Rattle.token.proofs.Words.{after_snoc, length_snoc}
 
@@ -24,12 +23,12 @@ unfoldable first_at : List ℕ → ℕ → Option Token
 first_at u m = first (after rules (take m u))
 
 NoneFrom : List ℕ → ℕ → Type 0
-NoneFrom u n = (m : ℕ) → n < m → m ≤ length u → first_at u m ≡ none
+NoneFrom u n = (m : ℕ) → n < m → m ≤ length u → first_at u m ≡ None
 
 -- b is the longest match within u
 Best : List ℕ → Scan → Type 0
-Best u Miss = NoneFrom u 0
-Best u (Hit k n) = (0 < n) × (n ≤ length u) × (first_at u n ≡ some k) × NoneFrom u n
+Best u None = NoneFrom u 0
+Best u (Some (k, n)) = (0 < n) × (n ≤ length u) × (first_at u n ≡ Some k) × NoneFrom u n
 
 module _ (u : List ℕ) (c : ℕ) where
   shorter : (m : ℕ) → m ≤ length u → first_at (u ++ (c ∷ [])) m ≡ first_at u m
@@ -40,7 +39,7 @@ module _ (u : List ℕ) (c : ℕ) where
   unfolding first_at
   whole = ap (λ (x : List ℕ). first (after rules x)) (take_all (suc (length u)) (u ++ (c ∷ [])) (omega (arith, length_snoc u c))) ∙ ap first (after_snoc u rules c)
 
-  none_more : (n : ℕ) → NoneFrom u n → first (derivs c (after rules u)) ≡ none → NoneFrom (u ++ (c ∷ [])) n
+  none_more : (n : ℕ) → NoneFrom u n → first (derivs c (after rules u)) ≡ None → NoneFrom (u ++ (c ∷ [])) n
   unfolding NoneFrom
   none_more n h e m l f =
       ⊎_elim (λ g. rw g (whole ∙ e)) (λ g. let k : m ≤ length u = omega arith in shorter m k ∙ h m l k)
@@ -55,9 +54,9 @@ module _ (u : List ℕ) (c : ℕ) where
   step b h = go (first (derivs c (after rules u))) refl b h
     where
       go : (o : Option Token) → first (derivs c (after rules u)) ≡ o → (b : Scan) → Best u b → Best (u ++ (c ∷ [])) (keep o (suc (length u)) b)
-      go none e Miss h = none_more 0 h e
-      go none e (Hit k n) h = (h.0, omega (arith, length_snoc u c), shorter n h.1 ∙ h.2, none_more n h.3 e)
-      go (some q) e b h = (omega arith, omega (arith, length_snoc u c), whole ∙ e, nothing_more)
+      go None e None h = none_more 0 h e
+      go None e (Some (k, n)) h = (h.0, omega (arith, length_snoc u c), shorter n h.1 ∙ h.2, none_more n h.3 e)
+      go (Some q) e b h = (omega arith, omega (arith, length_snoc u c), whole ∙ e, nothing_more)
 
 from : (w u : List ℕ) (b : Scan) → Best u b → Best (u ++ w) (scan_from (after rules u) (length u) b w)
 unfolding scan_from
@@ -72,9 +71,9 @@ beyond t n h m l f = first_none rules (take m t) (sym (first_by_law (take m t) r
 
 best_longest : (t : List ℕ) (b : Scan) → Best t b → Longest t b
 unfolding Best first_at
-best_longest t Miss h = beyond t 0 h
-best_longest t (Hit k n) h = (h.0, h.1, first_some rules (take n t) k (sym (first_by_law (take n t) rules) ∙ h.2), beyond t n h.3)
+best_longest t None h = beyond t 0 h
+best_longest t (Some (k, n)) h = (h.0, h.1, first_some rules (take n t) k (sym (first_by_law (take n t) rules) ∙ h.2), beyond t n h.3)
 
 pub scan_longest : (t : List ℕ) → Longest t (scan t)
 unfolding scan after Best NoneFrom
-scan_longest t = best_longest t (scan t) (from t [] Miss (λ m l f. absurd (omega arith)))
+scan_longest t = best_longest t (scan t) (from t [] None (λ m l f. absurd (omega arith)))

@@ -22,7 +22,7 @@ use Rattle.token.specs.Match.{In, First, Longest}
 use Rattle.token.specs.Scan.{scan}
 use Rattle.token.specs.declared.Token.{Token}
 use Rattle.token.specs.declared.Token.TheVariants as T
-use Rattle.token.specs.declared.Scan.TheVariants.{Hit}
+use Rattle.std.specs.Prelude.{Some}
 use Rattle.token.proofs.Codes.{same_kind}
 use Rattle.token.proofs.Truth.{T_true}
 use Rattle.token.proofs.Every.{every, at}
@@ -78,13 +78,13 @@ one_byte : (w : List ℕ) → In (pattern_of T.Newline rules) w → (c : ℕ) ×
 unfolding pattern_of rules words rest marks shapes word_rule token is code one_of
 one_byte w h = h
 
-newline_byte : (t : List ℕ) (k : Token) (n : ℕ) → scan t ≡ Hit k n → is k T.Newline ≡ true → (c : ℕ) × (take n t ≡ c ∷ []) × (within c line_ends ≡ true)
+newline_byte : (t : List ℕ) (k : Token) (n : ℕ) → scan t ≡ Some (k, n) → is k T.Newline ≡ true → (c : ℕ) × (take n t ≡ c ∷ []) × (within c line_ends ≡ true)
 newline_byte t k n e i =
-    one_byte (take n t) (first_in T.Newline rules (take n t) once_newline (hit_first t T.Newline n (e ∙ ap (λ (q : Token). Hit q n) (same_kind k T.Newline i))))
+    one_byte (take n t) (first_in T.Newline rules (take n t) once_newline (hit_first t T.Newline n (e ∙ ap (λ (q : Token). Some (q, n)) (same_kind k T.Newline i))))
 
-pub newline_one : (t : List ℕ) (k : Token) (n : ℕ) → scan t ≡ Hit k n → is k T.Newline ≡ true → n ≡ 1
+pub newline_one : (t : List ℕ) (k : Token) (n : ℕ) → scan t ≡ Some (k, n) → is k T.Newline ≡ true → n ≡ 1
 newline_one t k n e i =
-    let l : Longest t (Hit k n) = rw e at (scan_longest t) in
+    let l : Longest t (Some (k, n)) = rw e at (scan_longest t) in
     sym (length-take-le n t l.1) ∙ ap length (newline_byte t k n e i).1
 
 -- its class is that of `\n`, or that of `\r` and `\f`
@@ -95,7 +95,7 @@ line_test : Dec.T (every line 0 classes)
 unfolding line classes within ranges bytes
 line_test = tt
 
-pub newline_class : (t : List ℕ) (k : Token) (n : ℕ) → get_or t 0 0 < 256 → scan t ≡ Hit k n → is k T.Newline ≡ true → (eqb (class_of (get_or t 0 0)) 39 || eqb (class_of (get_or t 0 0)) 40) ≡ true
+pub newline_class : (t : List ℕ) (k : Token) (n : ℕ) → get_or t 0 0 < 256 → scan t ≡ Some (k, n) → is k T.Newline ≡ true → (eqb (class_of (get_or t 0 0)) 39 || eqb (class_of (get_or t 0 0)) 40) ≡ true
 unfolding line class_of
 newline_class t k n b e i =
     let h = newline_byte t k n e i in

@@ -8,7 +8,7 @@ use mathlib.Core.Path.{◌≡◌, refl, sym, ap, ◌∙◌}
 use mathlib.Core.Logic.{◌⊎◌, inl, inr}
 use mathlib.Core.Bool.{Bool, true, false, cond, ◌&&◌}
 use mathlib.Core.List.{List, [], ◌∷◌}
-use mathlib.Core.Option.{Option, some, none}
+use Rattle.std.specs.Prelude.{Option, Some, None}
 use Prim.Native.Nat.{ℕ, suc, ◌+◌, ◌<◌, ◌≤◌}
 use native.Mathlib.Numerals.{add-one}
 use native.Mathlib.Nat.{add-zero}
@@ -22,8 +22,7 @@ use Rattle.token.specs.Scan.{derivs, first, keep, scan_from}
 use Rattle.token.specs.Run.{class_of, stops, before}
 use Rattle.token.specs.Automaton.{State, start, dead, rules_at, step, kind_at, longest, Reached}
 use Rattle.token.specs.declared.Token.{Token}
-use Rattle.token.specs.declared.Scan.{Scan}
-use Rattle.token.specs.declared.Scan.TheVariants.{Miss}
+use Rattle.token.specs.Scanned.{Scan}
 use Rattle.token.proofs.Classes.{step_law, kind_law, class_below}
 
 -- nothing is left of the rules
@@ -41,7 +40,7 @@ pub scan_step : (s : State) (n : ℕ) (b : Scan) (c : ℕ) (w : List ℕ) → c 
     → scan_from (rules_at s) n b (c ∷ w) ≡ scan_from (rules_at (step s (class_of c))) (suc n) (keep (kind_at (step s (class_of c))) (suc n) b) w
 scan_step s n b c w h = scan_cons (rules_at s) n b c w ∙ rw (step_law s c h, kind_law (step s (class_of c)))
 
-pub reach_start : (t : List ℕ) → ((j : ℕ) → get_or t j 0 < 256) → Reached t start 0 Miss
+pub reach_start : (t : List ℕ) → ((j : ℕ) → get_or t j 0 < 256) → Reached t start 0 None
 unfolding longest rules_at
 reach_start t h = record { bytes = h; inside = omega arith; decides = refl }
 
@@ -88,8 +87,8 @@ Spins s from to = (k : ℕ) → k < 60 → (k < from) ⊎ (to ≤ k) → step s 
 
 keep_keep : (o : Option Token) (n m : ℕ) (b : Scan) → keep o n (keep o m b) ≡ keep o n b
 unfolding keep
-keep_keep none n m b = refl
-keep_keep (some k) n m b = refl
+keep_keep None n m b = refl
+keep_keep (Some k) n m b = refl
 
 outside : (from to k : ℕ) → (leb from k && ltb k to) ≡ false → (k < from) ⊎ (to ≤ k)
 outside from to k e = go (leb from k) refl (ltb k to) refl e

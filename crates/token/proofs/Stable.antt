@@ -6,7 +6,7 @@
 use mathlib.Core.Path.{◌≡◌, refl, sym, ap, ◌∙◌}
 use mathlib.Core.Bool.{Bool, true, false, cond, not, ◌||◌}
 use mathlib.Core.List.{List, [], ◌∷◌, ◌++◌, append-nil}
-use mathlib.Core.Option.{Option, some, none}
+use Rattle.std.specs.Prelude.{Option, Some, None}
 use Prim.Native.Nat.{ℕ, zero, suc, ◌+◌, ◌<◌, ◌≤◌}
 use native.Mathlib.Omega.{arith}
 use native.Mathlib.Nat.{add-zero, zero-add}
@@ -25,8 +25,8 @@ use Rattle.token.specs.Automaton.{State, start, dead, rules_at, openings, step, 
 use Rattle.token.specs.Breaks.{goes_on, breaks, Stops, Bytes}
 use Rattle.token.specs.declared.Token.{Token}
 use Rattle.token.specs.declared.Token.TheVariants as T
-use Rattle.token.specs.declared.Scan.{Scan}
-use Rattle.token.specs.declared.Scan.TheVariants.{Miss, Hit}
+use Rattle.token.specs.Scanned.{Scan}
+use Rattle.token.proofs.Pairs.{some_kind, some_length}
 use Rattle.token.proofs.Truth.{T_true}
 use Rattle.token.proofs.Every.{both, both_left, both_right, every, at}
 use Rattle.token.proofs.Classes.{classes_length, step_law}
@@ -46,8 +46,8 @@ none_left_is (r ∷ rs) t = absurd t
 
 -- the byte c ends the token found
 ended : Option Token → ℕ → Bool
-ended none c = false
-ended (some k) c = breaks k c
+ended None c = false
+ended (Some k) c = breaks k c
 
 -- THE TEST, in each state: a byte of the class j that ends the token found leads nowhere
 right : State → ℕ → ℕ → Bool
@@ -81,7 +81,7 @@ break_test (A.escaped true) = tt
 break_test (A.escaped false) = tt
 break_test (A.closed k) = tt
 
-breaks_dead : (s : State) (k : Token) (c : ℕ) → c < 256 → kind_at s ≡ some k → T (breaks k c) → derivs c (rules_at s) ≡ []
+breaks_dead : (s : State) (k : Token) (c : ℕ) → c < 256 → kind_at s ≡ Some k → T (breaks k c) → derivs c (rules_at s) ≡ []
 unfolding right ended class_of
 breaks_dead s k c h e t =
     step_law s c h
@@ -95,41 +95,41 @@ breaks_dead s k c h e t =
 -- ---- the longest match of the rules that are no words
 
 -- a match that ends at i or before is the one so far
-ends : (w : List ℕ) (rs : List Rule) (i : ℕ) (b : Scan) (k : Token) (n : ℕ) → n ≤ i → scan_from rs i b w ≡ Hit k n → b ≡ Hit k n
+ends : (w : List ℕ) (rs : List Rule) (i : ℕ) (b : Scan) (k : Token) (n : ℕ) → n ≤ i → scan_from rs i b w ≡ Some (k, n) → b ≡ Some (k, n)
 unfolding scan_from keep
 ends [] rs i b k n l e = e
 ends (c ∷ w) rs i b k n l e = go (first (derivs c rs)) (ends w (derivs c rs) (suc i) (keep (first (derivs c rs)) (suc i) b) k n (omega arith) e)
   where
-    go : (o : Option Token) → keep o (suc i) b ≡ Hit k n → b ≡ Hit k n
-    go none h = h
-    go (some q) h = let f : suc i ≡ n = cc in absurd (omega arith)
+    go : (o : Option Token) → keep o (suc i) b ≡ Some (k, n) → b ≡ Some (k, n)
+    go None h = h
+    go (Some q) h = let f : suc i ≡ n = some_length h in absurd (omega arith)
 
 -- in the state s behind i bytes: a best match that ends here has the kind of the state
 Best : State → ℕ → Scan → Type 0
-Best s i Miss = Unit
-Best s i (Hit q n) = (n ≤ i) × (n ≡ i → kind_at s ≡ some q)
+Best s i None = Unit
+Best s i (Some (q, n)) = (n ≤ i) × (n ≡ i → kind_at s ≡ Some q)
 
 best_keep : (s s' : State) (i : ℕ) (b : Scan) → Best s i b → Best s' (suc i) (keep (kind_at s') (suc i) b)
 unfolding Best keep
 best_keep s s' i b h = go (kind_at s') refl b h
   where
     go : (o : Option Token) → kind_at s' ≡ o → (b : Scan) → Best s i b → Best s' (suc i) (keep o (suc i) b)
-    go none e Miss h = tt
-    go none e (Hit q n) h = (omega arith, λ f. absurd (omega arith))
-    go (some q) e b h = (omega arith, λ f. e)
+    go None e None h = tt
+    go None e (Some (q, n)) h = (omega arith, λ f. absurd (omega arith))
+    go (Some q) e b h = (omega arith, λ f. e)
 
 -- from a state that has found q, what stops q adds nothing
-stays : (s : State) (i : ℕ) (q : Token) (r : List ℕ) → kind_at s ≡ some q → Stops q r → scan_from (rules_at s) i (Hit q i) r ≡ Hit q i
+stays : (s : State) (i : ℕ) (q : Token) (r : List ℕ) → kind_at s ≡ Some q → Stops q r → scan_from (rules_at s) i (Some (q, i)) r ≡ Some (q, i)
 unfolding scan_from keep first
 stays s i q [] e t = refl
-stays s i q (c ∷ r) e t = scan_cons (rules_at s) i (Hit q i) c r ∙ rw (breaks_dead s q c t.0 e t.1) (dead_scan (suc i) (Hit q i) r)
+stays s i q (c ∷ r) e t = scan_cons (rules_at s) i (Some (q, i)) c r ∙ rw (breaks_dead s q c t.0 e t.1) (dead_scan (suc i) (Some (q, i)) r)
 
 -- if w is found in front of r, it is in front of r'
 from : (w r r' : List ℕ) (s : State) (i : ℕ) (b : Scan) (q : Token) → Best s i b → Bytes w → Stops q r'
-    → scan_from (rules_at s) i b (w ++ r) ≡ Hit q (i + length w) → scan_from (rules_at s) i b (w ++ r') ≡ Hit q (i + length w)
+    → scan_from (rules_at s) i b (w ++ r) ≡ Some (q, i + length w) → scan_from (rules_at s) i b (w ++ r') ≡ Some (q, i + length w)
 unfolding Best
 from [] r r' s i b q h t st e =
-    let f : b ≡ Hit q i = ends r (rules_at s) i b q i (omega arith) (rw add-zero at e) in
+    let f : b ≡ Some (q, i) = ends r (rules_at s) i b q i (omega arith) (rw add-zero at e) in
     rw (add-zero, f) (stays s i q r' ((rw f at h).1 refl) st)
 from (c ∷ w) r r' s i b q h t st e =
     let n : suc i + length w ≡ i + length (c ∷ w) = omega arith in
@@ -137,11 +137,11 @@ from (c ∷ w) r r' s i b q h t st e =
     let b' : Scan = keep (kind_at s') (suc i) b in
     scan_step s i b c (w ++ r') t.0
     ∙ rw n at
-    (from w r r' s' (suc i) b' q (best_keep s s' i b h) t.1 st (sym (scan_step s i b c (w ++ r) t.0) ∙ e ∙ ap (Hit q) (sym n)))
+    (from w r r' s' (suc i) b' q (best_keep s s' i b h) t.1 st (sym (scan_step s i b c (w ++ r) t.0) ∙ e ∙ ap (λ n. Some (q, n)) (sym n)))
 
-longest_stable : (w r r' : List ℕ) (q : Token) → Bytes w → Stops q r' → longest (w ++ r) ≡ Hit q (length w) → longest (w ++ r') ≡ Hit q (length w)
+longest_stable : (w r r' : List ℕ) (q : Token) → Bytes w → Stops q r' → longest (w ++ r) ≡ Some (q, length w) → longest (w ++ r') ≡ Some (q, length w)
 unfolding longest rules_at Best
-longest_stable w r r' q t st e = rw zero-add at (from w r r' start 0 Miss q tt t st (rw zero-add e))
+longest_stable w r r' q t st e = rw zero-add at (from w r r' start 0 None q tt t st (rw zero-add e))
 
 -- ---- with the words
 
@@ -185,22 +185,22 @@ stops_called q w (c ∷ r) t = (t.0, go (is q T.Identifier) refl t.1)
     go false e h = h
     go true e h = breaks_on (lookup words w q) q c (lookup_on words w q (name_on q e) words_on) (name_on q e) h
 
-renamed : (t : List ℕ) (q : Token) (n : ℕ) → longest t ≡ Hit q n → scan t ≡ Hit (called q (take n t)) n
+renamed : (t : List ℕ) (q : Token) (n : ℕ) → longest t ≡ Some (q, n) → scan t ≡ Some (called q (take n t), n)
 unfolding rename called
 renamed t q n e = scan_words t ∙ rw e
 
-pub stable : (w r r' : List ℕ) (k : Token) → Bytes w → scan (w ++ r) ≡ Hit k (length w) → Stops k r' → scan (w ++ r') ≡ Hit k (length w)
+pub stable : (w r r' : List ℕ) (k : Token) → Bytes w → scan (w ++ r) ≡ Some (k, length w) → Stops k r' → scan (w ++ r') ≡ Some (k, length w)
 unfolding rename
 stable w r r' k t e st = go (longest (w ++ r)) refl
   where
-    go : (x : Scan) → longest (w ++ r) ≡ x → scan (w ++ r') ≡ Hit k (length w)
-    go Miss f = cc (scan_words (w ++ r))
-    go (Hit q n) f =
-        let a : Hit (called q (take n (w ++ r))) n ≡ Hit k (length w) = sym (renamed (w ++ r) q n f) ∙ e in
-        let m : n ≡ length w = cc in
+    go : (x : Scan) → longest (w ++ r) ≡ x → scan (w ++ r') ≡ Some (k, length w)
+    go None f = cc (scan_words (w ++ r))
+    go (Some (q, n)) f =
+        let a : ◌≡◌ {A = Scan} (Some (called q (take n (w ++ r)), n)) (Some (k, length w)) = sym (renamed (w ++ r) q n f) ∙ e in
+        let m : n ≡ length w = some_length a in
         let u : take n (w ++ r) ≡ w = rw m (take-append_seam w r) in
-        let g : called q w ≡ k = cc in
-        renamed (w ++ r') q (length w) (longest_stable w r r' q t (stops_called q w r' (rw g st)) (f ∙ ap (Hit q) m))
+        let g : called q w ≡ k = ap (called q) (sym u) ∙ some_kind a in
+        renamed (w ++ r') q (length w) (longest_stable w r r' q t (stops_called q w r' (rw g st)) (f ∙ ap (λ n. Some (q, n)) m))
         ∙ rw (take-append_seam w r', g)
 
 -- ---- what a printer needs
@@ -210,12 +210,12 @@ bytes_take zero t h = tt
 bytes_take (suc n) [] h = tt
 bytes_take (suc n) (c ∷ t) h = (h.0, bytes_take n t h.1)
 
-pub moved : (t r : List ℕ) (k : Token) (n : ℕ) → Bytes t → n ≤ length t → scan t ≡ Hit k n → Stops k r → scan (take n t ++ r) ≡ Hit k n
+pub moved : (t r : List ℕ) (k : Token) (n : ℕ) → Bytes t → n ≤ length t → scan t ≡ Some (k, n) → Stops k r → scan (take n t ++ r) ≡ Some (k, n)
 moved t r k n h l e st =
     let m : length (take n t) ≡ n = length-take-le n t l in
     rw m at (stable (take n t) (drop n t) r k (bytes_take n t h) (rw (m, take-append-drop n t) e) st)
 
-pub alone : (t : List ℕ) (k : Token) (n : ℕ) → Bytes t → n ≤ length t → scan t ≡ Hit k n → scan (take n t) ≡ Hit k n
+pub alone : (t : List ℕ) (k : Token) (n : ℕ) → Bytes t → n ≤ length t → scan t ≡ Some (k, n) → scan (take n t) ≡ Some (k, n)
 alone t k n h l e = rw append-nil at (moved t [] k n h l e tt)
 
 -- each number of a fixed text is a byte, by computation
@@ -227,5 +227,5 @@ small_bytes : (u : List ℕ) → T (small u) → Bytes u
 small_bytes [] t = tt
 small_bytes (c ∷ u) t = (ltb→lt c 256 (both_left (ltb c 256) (small u) t), small_bytes u (both_right (ltb c 256) (small u) t))
 
-pub fixed : (u r : List ℕ) (k : Token) → T (small u) → scan u ≡ Hit k (length u) → Stops k r → scan (u ++ r) ≡ Hit k (length u)
+pub fixed : (u r : List ℕ) (k : Token) → T (small u) → scan u ≡ Some (k, length u) → Stops k r → scan (u ++ r) ≡ Some (k, length u)
 fixed u r k h e st = stable u [] r k (small_bytes u h) (rw append-nil e) st

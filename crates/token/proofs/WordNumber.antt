@@ -11,7 +11,7 @@ use mathlib.Core.Path.{◌≡◌, refl, sym, ap, ◌∙◌, subst}
 use mathlib.Core.Logic.{◌⊎◌, inl, inr, ⊎_elim}
 use mathlib.Core.Bool.{Bool, true, false, cond, not}
 use mathlib.Core.List.{List, [], ◌∷◌, ◌++◌, append-nil, append_assoc}
-use mathlib.Core.Option.{Option, some, none}
+use Rattle.std.specs.Prelude.{Option, Some, None}
 use Prim.Native.Nat.{ℕ, zero, suc, ◌+◌, ◌<◌, ◌≤◌}
 use Prim.Native.String.{String}
 use native.Mathlib.Numerals.{add-one}
@@ -202,8 +202,8 @@ numbered_test = tt
 
 -- the keyword that some bytes are
 spelled_in : List Word → List ℕ → Option Word
-spelled_in [] u = none
-spelled_in (word k v ∷ ws) u = cond (same v u) (some (word k v)) (spelled_in ws u)
+spelled_in [] u = None
+spelled_in (word k v ∷ ws) u = cond (same v u) (Some (word k v)) (spelled_in ws u)
 
 keyword_spelled : (ws : List Word) (u : List ℕ) → T (numbered ws) → keyword_in ws (number u) ≡ spelled_in ws u
 unfolding keyword_in spelled_in numbered
@@ -213,8 +213,8 @@ keyword_spelled (word k v ∷ ws) u t =
 
 -- no two keywords have the same bytes
 found : Option Word → Token → List ℕ → Bool
-found none k v = false
-found (some (word q u)) k v = both (is q k) (same u v)
+found None k v = false
+found (Some (word q u)) k v = both (is q k) (same u v)
 
 first_found : List Word → Bool
 first_found [] = true
@@ -224,10 +224,10 @@ first_test : T (first_found words)
 unfolding first_found found spelled_in words token bytes same is code
 first_test = tt
 
-found_eq : (o : Option Word) (k : Token) (v : List ℕ) → T (found o k v) → o ≡ some (word k v)
+found_eq : (o : Option Word) (k : Token) (v : List ℕ) → T (found o k v) → o ≡ Some (word k v)
 unfolding found
-found_eq none k v t = absurd t
-found_eq (some (word q u)) k v t =
+found_eq None k v t = absurd t
+found_eq (Some (word q u)) k v t =
     cc (same_kind q k (T_true _ (both_left (is q k) _ t)), same_eq u v (T_true _ (both_right (is q k) _ t)))
 
 among_found : (ws : List Word) (k : Token) (v : List ℕ) → T (first_found ws) → Among (word k v) ws → T (found (spelled_in words v) k v)
@@ -245,24 +245,24 @@ among_found (word q u ∷ ws) k v t m =
     here : word k v ≡ word q u → T (found (spelled_in words v) k v)
     here e = rw (ap kind e, ap letters e) (both_left (found (spelled_in words u) q u) _ t)
 
-spelled_among : (ws : List Word) (u : List ℕ) (k : Token) (v : List ℕ) → spelled_in ws u ≡ some (word k v) → Among (word k v) ws × (u ≡ v)
+spelled_among : (ws : List Word) (u : List ℕ) (k : Token) (v : List ℕ) → spelled_in ws u ≡ Some (word k v) → Among (word k v) ws × (u ≡ v)
 unfolding spelled_in Among
 spelled_among [] u k v e = absurd (subst (λ (o : Option Word). T (nobody o)) e tt)
   where
     nobody : Option Word → Bool
-    nobody none = true
-    nobody (some x) = false
+    nobody None = true
+    nobody (Some x) = false
 spelled_among (word q w ∷ ws) u k v e = go (same w u) refl (spelled_among ws u k v) e
   where
     letters : Option Word → List ℕ
-    letters none = []
-    letters (some (word a b)) = b
+    letters None = []
+    letters (Some (word a b)) = b
 
     back : Option Word → Word
-    back none = word q w
-    back (some x) = x
+    back None = word q w
+    back (Some x) = x
 
-    go : (b : Bool) → same w u ≡ b → (spelled_in ws u ≡ some (word k v) → Among (word k v) ws × (u ≡ v)) → cond b (some (word q w)) (spelled_in ws u) ≡ some (word k v)
+    go : (b : Bool) → same w u ≡ b → (spelled_in ws u ≡ Some (word k v) → Among (word k v) ws × (u ≡ v)) → cond b (Some (word q w)) (spelled_in ws u) ≡ Some (word k v)
         → ((word k v ≡ word q w) ⊎ Among (word k v) ws) × (u ≡ v)
     go true e g f = (inl (sym (ap back f)), sym (same_eq w u e) ∙ ap letters f)
     go false e g f = let r = g f in (inr r.0, r.1)
@@ -291,7 +291,7 @@ unfolding spelled_in lookup kind_in
 spelled_lookup [] u = refl
 spelled_lookup (word k v ∷ ws) u = go (same v u) (spelled_lookup ws u)
   where
-    go : (b : Bool) → kind_in (spelled_in ws u) ≡ lookup ws u T.Identifier → kind_in (cond b (some (word k v)) (spelled_in ws u)) ≡ cond b k (lookup ws u T.Identifier)
+    go : (b : Bool) → kind_in (spelled_in ws u) ≡ lookup ws u T.Identifier → kind_in (cond b (Some (word k v)) (spelled_in ws u)) ≡ cond b k (lookup ws u T.Identifier)
     go true e = refl
     go false e = e
 
@@ -301,20 +301,20 @@ kind_told u = ap kind_in (keyword_spelled words u numbered_test) ∙ spelled_loo
 
 -- ---- texts that start with no keyword
 
-none_lookup : (ws : List Word) (u : List ℕ) (k : Token) → spelled_in ws u ≡ none → lookup ws u k ≡ k
+none_lookup : (ws : List Word) (u : List ℕ) (k : Token) → spelled_in ws u ≡ None → lookup ws u k ≡ k
 unfolding spelled_in lookup
 none_lookup [] u k e = refl
 none_lookup (word q v ∷ ws) u k e = go (same v u) (none_lookup ws u k) e
   where
-    go : (b : Bool) → (spelled_in ws u ≡ none → lookup ws u k ≡ k) → cond b (some (word q v)) (spelled_in ws u) ≡ none → cond b q (lookup ws u k) ≡ k
+    go : (b : Bool) → (spelled_in ws u ≡ None → lookup ws u k ≡ k) → cond b (Some (word q v)) (spelled_in ws u) ≡ None → cond b q (lookup ws u k) ≡ k
     go true g e = cc e
     go false g e = g e
 
-plain : (u : List ℕ) (k : Token) → keyword (number u) ≡ none → lookup words u k ≡ k
+plain : (u : List ℕ) (k : Token) → keyword (number u) ≡ None → lookup words u k ≡ k
 unfolding keyword
 plain u k e = none_lookup words u k (sym (keyword_spelled words u numbered_test) ∙ e)
 
-no_keywords : (keyword start ≡ none) × (keyword no_keyword ≡ none)
+no_keywords : (keyword start ≡ None) × (keyword no_keyword ≡ None)
 unfolding keyword keyword_in words token bytes number number_from step step_by class_of classes trie
 no_keywords = (refl, refl)
 
@@ -322,7 +322,7 @@ dead_first : (t : List ℕ) → step start (get_or t 0 0) ≡ no_keyword → NoW
 unfolding number number_from
 dead_first t e = record { plain = λ k n. plain (take n t) k (go t n e) }
   where
-    go : (t : List ℕ) (n : ℕ) → step start (get_or t 0 0) ≡ no_keyword → keyword (number (take n t)) ≡ none
+    go : (t : List ℕ) (n : ℕ) → step start (get_or t 0 0) ≡ no_keyword → keyword (number (take n t)) ≡ None
     go t zero e = no_keywords.0
     go [] (suc n) e = no_keywords.0
     go (c ∷ t) (suc n) e = ap keyword (ap (λ (m : ℕ). number_from m (take n t)) e ∙ from_none (take n t)) ∙ no_keywords.1

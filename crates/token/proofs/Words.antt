@@ -3,7 +3,7 @@ use mathlib.Core.Path.{◌≡◌, refl, sym, ap, ◌∙◌}
 use mathlib.Core.Logic.{◌⊎◌, inl, inr, ⊎_elim}
 use mathlib.Core.Bool.{Bool, true, false, cond, ◌&&◌, ◌||◌}
 use mathlib.Core.List.{List, [], ◌∷◌, map, ◌++◌, append_assoc}
-use mathlib.Core.Option.{Option, some, none}
+use Rattle.std.specs.Prelude.{Option, Some, None}
 use Prim.Native.Nat.{ℕ, suc}
 use native.Mathlib.Omega.{arith}
 use Rattle.token.proofs.Truth.{T_true}
@@ -42,8 +42,7 @@ use Rattle.token.specs.Code.{code, is}
 use Rattle.token.specs.Words.{same, lookup, rename, NoWord}
 use Rattle.token.specs.declared.Token.{Token}
 use Rattle.token.specs.declared.Token.TheVariants as T
-use Rattle.token.specs.declared.Scan.{Scan}
-use Rattle.token.specs.declared.Scan.TheVariants.{Miss, Hit}
+use Rattle.token.specs.Scanned.{Scan}
 use Rattle.token.proofs.Every.{both, both_left, both_right}
 use Rattle.token.specs.Automaton.{after, longest}
 
@@ -99,22 +98,22 @@ derivs_exact c k a v = rw (only a c) (go (eqb a c))
     go true = rw (exact_some v, exact_some v)
     go false = refl
 
-first_exact : (k : Token) (u v : List ℕ) (qs : List Rule) → first (after (rule k (exact v) ∷ []) u ++ qs) ≡ cond (same v u) (some k) (first qs)
+first_exact : (k : Token) (u v : List ℕ) (qs : List Rule) → first (after (rule k (exact v) ∷ []) u ++ qs) ≡ cond (same v u) (Some k) (first qs)
 unfolding after first same exact nullable derivs deriv is_nothing then
 first_exact k [] [] qs = refl
 first_exact k [] (a ∷ v) qs = refl
 first_exact k (c ∷ u) [] qs = rw (after_nil u)
 first_exact k (c ∷ u) (a ∷ v) qs = rw (derivs_exact c k a v) (go (eqb a c) (first_exact k u v qs))
   where
-    go : (b : Bool) → first (after (rule k (exact v) ∷ []) u ++ qs) ≡ cond (same v u) (some k) (first qs)
-        → first (after (cond b (rule k (exact v) ∷ []) []) u ++ qs) ≡ cond (b && same v u) (some k) (first qs)
+    go : (b : Bool) → first (after (rule k (exact v) ∷ []) u ++ qs) ≡ cond (same v u) (Some k) (first qs)
+        → first (after (cond b (rule k (exact v) ∷ []) []) u ++ qs) ≡ cond (b && same v u) (Some k) (first qs)
     go true e = e
     go false e = rw (after_nil u)
 
 -- the kind of the word u, o if it is none of ws
 try : List Word → List ℕ → Option Token → Option Token
 try [] u o = o
-try (word q v ∷ ws) u o = cond (same v u) (some q) (try ws u o)
+try (word q v ∷ ws) u o = cond (same v u) (Some q) (try ws u o)
 
 first_words : (ws : List Word) (u : List ℕ) (qs : List Rule) → first (after (map word_rule ws) u ++ qs) ≡ try ws u (first qs)
 unfolding try word_rule
@@ -135,8 +134,8 @@ same_eq (a ∷ u) (b ∷ v) e = go (eqb a b) refl (same_eq u v) e
 
 -- each word is an identifier by the other rules
 identifier : Option Token → Bool
-identifier none = false
-identifier (some k) = is k T.Identifier
+identifier None = false
+identifier (Some k) = is k T.Identifier
 
 all_named : List Word → Bool
 all_named [] = true
@@ -150,7 +149,7 @@ named_words = tt
 Known : List Word → List ℕ → Type 0
 Known ws u =
     (((o : Option Token) → try ws u o ≡ o) × ((k : Token) → lookup ws u k ≡ k))
-    ⊎ (T (identifier (first (after rest u))) × ((o : Option Token) (k : Token) → try ws u o ≡ some (lookup ws u k)))
+    ⊎ (T (identifier (first (after rest u))) × ((o : Option Token) (k : Token) → try ws u o ≡ Some (lookup ws u k)))
 
 known : (ws : List Word) (u : List ℕ) → T (all_named ws) → Known ws u
 unfolding lookup try all_named Known
@@ -158,8 +157,8 @@ known [] u t = inl (λ o. refl, λ k. refl)
 known (word q v ∷ ws) u t = go (same v u) refl (known ws u (both_right (identifier (first (after rest v))) _ t))
   where
     go : (b : Bool) → same v u ≡ b → Known ws u
-        → (((o : Option Token) → cond b (some q) (try ws u o) ≡ o) × ((k : Token) → cond b q (lookup ws u k) ≡ k))
-        ⊎ (T (identifier (first (after rest u))) × ((o : Option Token) (k : Token) → cond b (some q) (try ws u o) ≡ some (cond b q (lookup ws u k))))
+        → (((o : Option Token) → cond b (Some q) (try ws u o) ≡ o) × ((k : Token) → cond b q (lookup ws u k) ≡ k))
+        ⊎ (T (identifier (first (after rest u))) × ((o : Option Token) (k : Token) → cond b (Some q) (try ws u o) ≡ Some (cond b q (lookup ws u k))))
     go false e h = h
     go true e h = inr (rw (← same_eq v u e) (both_left (identifier (first (after rest v))) (all_named ws) t), λ o k. refl)
 
@@ -168,22 +167,22 @@ kept : (t u : List ℕ) (n : ℕ) (o : Option Token) (b : Scan) → take n t ≡
 unfolding keep rename Known identifier
 kept t u n o b e f = ⊎_elim plain other (known words u named_words)
   where
-    idem : (q : Bool) (k : Token) → Hit k n ≡ Hit (cond q k k) n
+    idem : (q : Bool) (k : Token) → ◌≡◌ {A = Scan} (Some (k, n)) (Some (cond q k k, n))
     idem true k = refl
     idem false k = refl
 
     pick : (o : Option Token) → ((k : Token) → lookup words u k ≡ k) → keep o n (rename t b) ≡ rename t (keep o n b)
-    pick none h = refl
-    pick (some k) h = rw (e, h k) (idem (is k T.Identifier) k)
+    pick None h = refl
+    pick (Some k) h = rw (e, h k) (idem (is k T.Identifier) k)
 
     plain : ((o : Option Token) → try words u o ≡ o) × ((k : Token) → lookup words u k ≡ k) → keep (try words u o) n (rename t b) ≡ rename t (keep o n b)
     plain h = rw (h.0 o) (pick o h.1)
 
-    found : (o : Option Token) → T (identifier o) → ((p : Option Token) (k : Token) → try words u p ≡ some (lookup words u k)) → keep (try words u o) n (rename t b) ≡ rename t (keep o n b)
-    found none i h = absurd i
-    found (some k) i h = rw (h (some k) k, T_true (is k T.Identifier) i, e)
+    found : (o : Option Token) → T (identifier o) → ((p : Option Token) (k : Token) → try words u p ≡ Some (lookup words u k)) → keep (try words u o) n (rename t b) ≡ rename t (keep o n b)
+    found None i h = absurd i
+    found (Some k) i h = rw (h (Some k) k, T_true (is k T.Identifier) i, e)
 
-    other : T (identifier (first (after rest u))) × ((p : Option Token) (k : Token) → try words u p ≡ some (lookup words u k)) → keep (try words u o) n (rename t b) ≡ rename t (keep o n b)
+    other : T (identifier (first (after rest u))) × ((p : Option Token) (k : Token) → try words u p ≡ Some (lookup words u k)) → keep (try words u o) n (rename t b) ≡ rename t (keep o n b)
     other h = found o (rw f h.0) h.1
 
 first_rules : (u : List ℕ) → first (after rules u) ≡ try words u (first (after rest u))
@@ -208,7 +207,7 @@ words_from (c ∷ w) u t b e =
 
 pub scan_words : (t : List ℕ) → scan t ≡ rename t (longest t)
 unfolding scan longest after rename
-scan_words t = words_from t [] t Miss refl
+scan_words t = words_from t [] t None refl
 
 -- a text that starts with no word is scanned as it is
 pub scan_plain : (t : List ℕ) (b : Scan) → NoWord t → longest t ≡ b → scan t ≡ b
@@ -220,10 +219,10 @@ scan_plain t b h e = scan_words t ∙ ap (rename t) e ∙ go b
     idem false k = refl
 
     go : (b : Scan) → rename t b ≡ b
-    go Miss = refl
-    go (Hit k n) = rw (h.plain k n) (ap (λ (x : Token). Hit x n) (idem (is k T.Identifier) k))
+    go None = refl
+    go (Some (k, n)) = rw (h.plain k n) (ap (λ (x : Token). Some (x, n)) (idem (is k T.Identifier) k))
 
 -- an identifier is a keyword if its bytes are
-pub scan_word : (t : List ℕ) (n : ℕ) → longest t ≡ Hit T.Identifier n → scan t ≡ Hit (lookup words (take n t) T.Identifier) n
+pub scan_word : (t : List ℕ) (n : ℕ) → longest t ≡ Some (T.Identifier, n) → scan t ≡ Some (lookup words (take n t) T.Identifier, n)
 unfolding rename is code
 scan_word t n e = scan_words t ∙ rw e

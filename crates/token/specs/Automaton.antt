@@ -1,6 +1,6 @@
 -- The states of a scan, for the contracts of scan/src: what is left of the rules that are no words, by the class of each byte.
 use Rattle.std.specs.Prelude.{ℕ, ◌-◌, ◌<◌, ◌≤◌, ◌≡◌, Bool, true, false, cond, ◌&&◌, List, [], ◌∷◌, eqb, ltb, leb, length, get_or, drop}
-use Rattle.std.proofs.Math.Option.{Option, some, none}
+use Rattle.std.specs.Prelude.{Option, Some, None}
 use Rattle.token.specs.Regex.{empty, bytes as ascii, ranges, within, nullable, is_nothing, then, or, deriv}
 use Rattle.token.specs.Patterns.{
   Rule,
@@ -26,8 +26,7 @@ use Rattle.token.specs.Patterns.{
 use Rattle.token.specs.Scan.{derivs, scan_from}
 use Rattle.token.specs.declared.Token.{Token}
 use Rattle.token.specs.declared.Token.TheVariants as T
-use Rattle.token.specs.declared.Scan.{Scan}
-use Rattle.token.specs.declared.Scan.TheVariants.{Miss, Hit}
+use Rattle.token.specs.Scanned.{Scan}
 
 -- where a scan may stand. `closed k`: a token of the kind k that nothing can lengthen. The Bool of a string: its quote is `"`
 pub data State : Type 0 where
@@ -88,29 +87,29 @@ stop false = 42
 
 -- the token of one byte of a class
 unfoldable pub whole_byte : State → Scan
-whole_byte start = Miss
-whole_byte dead = Miss
-whole_byte blanks = Miss
-whole_byte comment = Miss
-whole_byte signed = Miss
-whole_byte dot = Miss
-whole_byte signed_dot = Miss
-whole_byte slash = Miss
-whole_byte zero = Miss
-whole_byte whole = Miss
-whole_byte fraction = Miss
-whole_byte exponent_mark = Miss
-whole_byte exponent_sign = Miss
-whole_byte exponent_digit = Miss
-whole_byte hex_mark = Miss
-whole_byte hex_digits = Miss
-whole_byte named = Miss
-whole_byte name_dot = Miss
-whole_byte block = Miss
-whole_byte block_star = Miss
-whole_byte (in_string q) = Miss
-whole_byte (escaped q) = Miss
-whole_byte (closed k) = Hit k 1
+whole_byte start = None
+whole_byte dead = None
+whole_byte blanks = None
+whole_byte comment = None
+whole_byte signed = None
+whole_byte dot = None
+whole_byte signed_dot = None
+whole_byte slash = None
+whole_byte zero = None
+whole_byte whole = None
+whole_byte fraction = None
+whole_byte exponent_mark = None
+whole_byte exponent_sign = None
+whole_byte exponent_digit = None
+whole_byte hex_mark = None
+whole_byte hex_digits = None
+whole_byte named = None
+whole_byte name_dot = None
+whole_byte block = None
+whole_byte block_star = None
+whole_byte (in_string q) = None
+whole_byte (escaped q) = None
+whole_byte (closed k) = Some (k, 1)
 
 unfoldable pub opened : ℕ → Scan
 opened k = whole_byte (get_or openings (k - 36) dead)
@@ -143,33 +142,33 @@ step (closed t) k = dead
 
 -- the kind of the token that ends here
 unfoldable pub kind_at : State → Option Token
-kind_at start = none
-kind_at dead = none
-kind_at blanks = some T.Blank
-kind_at comment = some T.LineComment
-kind_at signed = none
-kind_at dot = some T.Dot
-kind_at signed_dot = none
-kind_at slash = none
-kind_at zero = some T.IntegerLiteral
-kind_at whole = some T.IntegerLiteral
-kind_at fraction = some T.DoubleLiteral
-kind_at exponent_mark = none
-kind_at exponent_sign = none
-kind_at exponent_digit = some T.DoubleLiteral
-kind_at hex_mark = none
-kind_at hex_digits = some T.HexLiteral
-kind_at named = some T.Identifier
-kind_at name_dot = none
-kind_at block = none
-kind_at block_star = none
-kind_at (in_string q) = none
-kind_at (escaped q) = none
-kind_at (closed k) = some k
+kind_at start = None
+kind_at dead = None
+kind_at blanks = Some T.Blank
+kind_at comment = Some T.LineComment
+kind_at signed = None
+kind_at dot = Some T.Dot
+kind_at signed_dot = None
+kind_at slash = None
+kind_at zero = Some T.IntegerLiteral
+kind_at whole = Some T.IntegerLiteral
+kind_at fraction = Some T.DoubleLiteral
+kind_at exponent_mark = None
+kind_at exponent_sign = None
+kind_at exponent_digit = Some T.DoubleLiteral
+kind_at hex_mark = None
+kind_at hex_digits = Some T.HexLiteral
+kind_at named = Some T.Identifier
+kind_at name_dot = None
+kind_at block = None
+kind_at block_star = None
+kind_at (in_string q) = None
+kind_at (escaped q) = None
+kind_at (closed k) = Some k
 
 -- the longest match of the rules that are no words
 unfoldable pub longest : List ℕ → Scan
-longest t = scan_from rest 0 Miss t
+longest t = scan_from rest 0 None t
 
 -- a scan of t stands behind i bytes in the state s, with b the longest match so far
 pub record Reached (t : List ℕ) (s : State) (i : ℕ) (b : Scan) : Type 0 where

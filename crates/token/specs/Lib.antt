@@ -2,6 +2,7 @@ pub mod Code
 pub mod Kind
 pub mod Regex
 pub mod Patterns
+pub mod Scanned
 pub mod Scan
 pub mod Match
 pub mod Tables

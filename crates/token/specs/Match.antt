@@ -3,8 +3,8 @@ use Rattle.std.specs.Prelude.{ℕ, ◌<◌, ◌≤◌, ◌≡◌, ◌⊎◌, tru
 use Rattle.token.specs.Regex.{Regex, nothing, empty, set, unset, seq, alt, star, within}
 use Rattle.token.specs.Patterns.{Rule, rule, rules}
 use Rattle.token.specs.declared.Token.{Token}
-use Rattle.token.specs.declared.Scan.{Scan}
-use Rattle.token.specs.declared.Scan.TheVariants.{Miss, Hit}
+use Rattle.token.specs.Scanned.{Scan}
+use Rattle.std.specs.Prelude.{Some, None}
 
 -- any number of parts, each with P
 pub data Star (P : List ℕ → Type 0) : List ℕ → Type 0 where
@@ -22,9 +22,9 @@ In (alt r s) w = In r w ⊎ In s w
 In (star r) w = Star (In r) w
 
 -- w matches no rule
-abbrev pub None : List Rule → List ℕ → Type 0
-None [] w = Unit
-None (rule k r ∷ rs) w = (In r w → ⊥) × None rs w
+abbrev pub MatchesNone : List Rule → List ℕ → Type 0
+MatchesNone [] w = Unit
+MatchesNone (rule k r ∷ rs) w = (In r w → ⊥) × MatchesNone rs w
 
 -- the first rule that w matches has the kind k
 abbrev pub First : List Rule → List ℕ → Token → Type 0
@@ -33,9 +33,9 @@ First (rule q r ∷ rs) w k = (In r w × (k ≡ q)) ⊎ ((In r w → ⊥) × Fir
 
 -- no rule matches more than n bytes of the text
 abbrev pub NoneBeyond : List ℕ → ℕ → Type 0
-NoneBeyond t n = (m : ℕ) → n < m → m ≤ length t → None rules (take m t)
+NoneBeyond t n = (m : ℕ) → n < m → m ≤ length t → MatchesNone rules (take m t)
 
 -- the longest match: the first rule that matches n bytes has the kind k, and none matches more
 abbrev pub Longest : List ℕ → Scan → Type 0
-Longest t Miss = NoneBeyond t 0
-Longest t (Hit k n) = (0 < n) × (n ≤ length t) × First rules (take n t) k × NoneBeyond t n
+Longest t None = NoneBeyond t 0
+Longest t (Some (k, n)) = (0 < n) × (n ≤ length t) × First rules (take n t) k × NoneBeyond t n

@@ -1,15 +1,14 @@
 -- Document 02, Change 3: after each byte of a word one number, made from the number before it and that byte, tells which keyword the bytes so far spell,
 -- if any. The contracts of scan/src take a word's kind from it; proofs/WordNumber shows what it tells (`told`).
 use Rattle.std.specs.Prelude.{ℕ, ◌+◌, ◌<◌, ◌≡◌, ◌⊎◌, cond, List, [], ◌∷◌, eqb, get_or}
-use Rattle.std.proofs.Math.Option.{Option, some, none}
+use Rattle.std.specs.Prelude.{Option, Some, None}
 use Rattle.std.proofs.Math.Seq.{slice}
 use Rattle.token.specs.Patterns.{Word, word, words}
 use Rattle.token.specs.Tables.{trie}
 use Rattle.token.specs.Run.{class_of}
 use Rattle.token.specs.declared.Token.{Token}
 use Rattle.token.specs.declared.Token.TheVariants as T
-use Rattle.token.specs.declared.Scan.{Scan}
-use Rattle.token.specs.declared.Scan.TheVariants.{Miss, Hit}
+use Rattle.token.specs.Scanned.{Scan}
 
 -- the number at the start of a word, and the one where no keyword begins with the bytes so far
 abbrev pub start : ℕ
@@ -39,24 +38,24 @@ number u = number_from start u
 
 -- the keyword that a number stands for, if any: the one whose bytes lead to it
 unfoldable pub keyword_in : List Word → ℕ → Option Word
-keyword_in [] n = none
-keyword_in (word k u ∷ ws) n = cond (eqb (number u) n) (some (word k u)) (keyword_in ws n)
+keyword_in [] n = None
+keyword_in (word k u ∷ ws) n = cond (eqb (number u) n) (Some (word k u)) (keyword_in ws n)
 
 unfoldable pub keyword : ℕ → Option Word
 keyword n = keyword_in words n
 
 -- the kind of a word with this number
 unfoldable pub kind_in : Option Word → Token
-kind_in none = T.Identifier
-kind_in (some (word k u)) = k
+kind_in None = T.Identifier
+kind_in (Some (word k u)) = k
 
 unfoldable pub kind_of : ℕ → Token
 kind_of n = kind_in (keyword n)
 
 -- a word that ends where a match does, the number behind its first i bytes being n: of these bytes nothing but the number is looked at
 unfoldable pub word_from : ℕ → ℕ → List ℕ → Scan → Scan
-word_from n i t Miss = Miss
-word_from n i t (Hit k e) = Hit (kind_of (number_from n (slice i e t))) e
+word_from n i t None = None
+word_from n i t (Some (k, e)) = Some (kind_of (number_from n (slice i e t)), e)
 
 -- ---- what the number of some bytes tells
 
@@ -68,6 +67,6 @@ Among w (v ∷ ws) = (w ≡ v) ⊎ Among w ws
 pub record Tells (u : List ℕ) : Type 0 where
   pub below : number u < 1000
   -- a keyword that it stands for is one of rico's, and the bytes spell it
-  pub stands : (k : Token) (v : List ℕ) → keyword (number u) ≡ some (word k v) → Among (word k v) words × (u ≡ v)
+  pub stands : (k : Token) (v : List ℕ) → keyword (number u) ≡ Some (word k v) → Among (word k v) words × (u ≡ v)
   -- for a keyword of rico's that the bytes spell it stands
-  pub spells : (k : Token) (v : List ℕ) → Among (word k v) words → u ≡ v → keyword (number u) ≡ some (word k v)
+  pub spells : (k : Token) (v : List ℕ) → Among (word k v) words → u ≡ v → keyword (number u) ≡ Some (word k v)

@@ -4,8 +4,8 @@ use Rattle.token.specs.Code.{is}
 use Rattle.token.specs.Patterns.{Word, word, words}
 use Rattle.token.specs.declared.Token.{Token}
 use Rattle.token.specs.declared.Token.TheVariants as T
-use Rattle.token.specs.declared.Scan.{Scan}
-use Rattle.token.specs.declared.Scan.TheVariants.{Miss, Hit}
+use Rattle.token.specs.Scanned.{Scan}
+use Rattle.std.specs.Prelude.{Some, None}
 
 unfoldable pub same : List ℕ → List ℕ → Bool
 same [] [] = true
@@ -20,8 +20,8 @@ lookup (word q v ∷ ws) u k = cond (same v u) q (lookup ws u k)
 
 -- an identifier that is a word has the word's kind
 unfoldable pub rename : List ℕ → Scan → Scan
-rename t Miss = Miss
-rename t (Hit k n) = Hit (cond (is k T.Identifier) (lookup words (take n t) k) k) n
+rename t None = None
+rename t (Some (k, n)) = Some (cond (is k T.Identifier) (lookup words (take n t) k) k, n)
 
 -- no word stands at the start of t
 pub record NoWord (t : List ℕ) : Type 0 where

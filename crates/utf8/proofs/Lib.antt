@@ -1,3 +1,2 @@
-pub mod FoundLaws
 pub mod Utf8Laws
 pub mod Utf8Cases

@@ -1,7 +1,7 @@
 -- Texts, and where they stop being UTF-8: each is computed.
 use mathlib.Core.Path.{◌≡◌, refl}
 use mathlib.Core.List.{List, [], ◌∷◌}
-use mathlib.Core.Option.{Option, some}
+use Rattle.std.specs.Prelude.{Option, Some}
 use Prim.Native.Nat.{ℕ}
 use Rattle.utf8.specs.Utf8.{tail, sequences, begins, width, sequence, ill_from, ill_formed, WellFormed}
 
@@ -26,46 +26,46 @@ unfolding on
 four_bytes = refl
 
 -- the second byte is no tail
-no_tail : ill_formed (0xe2 ∷ 0x28 ∷ []) ≡ some 0
+no_tail : ill_formed (0xe2 ∷ 0x28 ∷ []) ≡ Some 0
 unfolding on
 no_tail = refl
 
 -- U+0000 in two bytes, behind `a`
-overlong_2 : ill_formed (0x61 ∷ 0xc0 ∷ 0x80 ∷ []) ≡ some 1
+overlong_2 : ill_formed (0x61 ∷ 0xc0 ∷ 0x80 ∷ []) ≡ Some 1
 unfolding on
 overlong_2 = refl
 
 -- U+07FF in three bytes
-overlong_3 : ill_formed (0xe0 ∷ 0x9f ∷ 0xbf ∷ []) ≡ some 0
+overlong_3 : ill_formed (0xe0 ∷ 0x9f ∷ 0xbf ∷ []) ≡ Some 0
 unfolding on
 overlong_3 = refl
 
 -- U+D800, a surrogate
-surrogate : ill_formed (0xed ∷ 0xa0 ∷ 0x80 ∷ []) ≡ some 0
+surrogate : ill_formed (0xed ∷ 0xa0 ∷ 0x80 ∷ []) ≡ Some 0
 unfolding on
 surrogate = refl
 
 -- U+110000, above the last
-too_high : ill_formed (0xf4 ∷ 0x90 ∷ 0x80 ∷ 0x80 ∷ []) ≡ some 0
+too_high : ill_formed (0xf4 ∷ 0x90 ∷ 0x80 ∷ 0x80 ∷ []) ≡ Some 0
 unfolding on
 too_high = refl
 
 -- cut off
-cut : ill_formed (0xc3 ∷ []) ≡ some 0
+cut : ill_formed (0xc3 ∷ []) ≡ Some 0
 unfolding on
 cut = refl
 
 -- cut off behind `a`
-cut_behind : ill_formed (0x61 ∷ 0xc3 ∷ []) ≡ some 1
+cut_behind : ill_formed (0x61 ∷ 0xc3 ∷ []) ≡ Some 1
 unfolding on
 cut_behind = refl
 
 -- a byte that no sequence has
-no_byte : ill_formed (0xff ∷ []) ≡ some 0
+no_byte : ill_formed (0xff ∷ []) ≡ Some 0
 unfolding on
 no_byte = refl
 
 -- a tail byte with none before it
-lone_tail : ill_formed (0x80 ∷ []) ≡ some 0
+lone_tail : ill_formed (0x80 ∷ []) ≡ Some 0
 unfolding on
 lone_tail = refl

@@ -6,7 +6,7 @@
 use mathlib.Core.Path.{◌≡◌, refl, sym, ap, ◌∙◌}
 use mathlib.Core.Bool.{Bool, true, false, cond, ◌&&◌, and-eq-true_iff, false≢true}
 use mathlib.Core.List.{List, [], ◌∷◌, ◌++◌}
-use mathlib.Core.Option.{some, none}
+use Rattle.std.specs.Prelude.{Some, None}
 use Prim.Native.Nat.{ℕ, zero, suc, ◌+◌, ◌-◌, ◌≤◌, ◌<◌, zero-le, suc-le-suc}
 use native.Mathlib.Nat.{add-zero}
 use native.Mathlib.Omega.{arith}
@@ -14,7 +14,9 @@ use native.Mathlib.Numerals.{add-one}
 use borrow.Author.Tests.{le-leb, lt-leb, leb-true}
 use lib.Dec.{leb}
 use lib.ListN.{length, take, drop, get_or, replicate, drop_of_length-le, length-drop, length-take, take-append-drop}
-use lib.Seq.{drop-cons, drop-drop, get_or-take, get_or-drop}
+use lib.Seq.{take_all, drop-cons, drop-drop, get_or-take, get_or-drop}
+use Rattle.std.specs.Bool.{MatchBool}
+use Rattle.std.specs.List.{AllWithin, HoldsAt}
 use Rattle.token.specs.Regex.{Range, to}
 use Rattle.utf8.specs.Utf8.{tail, sequences, begins, width, sequence, ill_from, ill_formed, WellFormed}
 
@@ -208,18 +210,61 @@ pub begins_step : (a b : ℕ) (rs : List Range) (t : List ℕ) (i : ℕ) → i <
 unfolding begins
 begins_step a b rs t i h = rw (drop-cons t i 0 h, add-one)
 
-pub tails_end : (k : ℕ) (t : List ℕ) (i : ℕ) → 0 < k → length t ≤ i → begins (replicate k tail) (drop i t) ≡ false
-unfolding tail
-tails_end zero t i l h = absurd (omega arith)
-tails_end (suc k) t i l h = begins_end 0x80 0xbf (replicate k tail) t i h
+-- k tail bytes: all that come first are in range; one is out of it; the text is too short
+abbrev pub IsTail : ℕ → Type 0
+IsTail c = (0x80 ≤ c) × (c ≤ 0xbf)
 
-pub tails_step : (k : ℕ) (t : List ℕ) (i : ℕ) → 0 < k → i < length t
-    → begins (replicate k tail) (drop i t) ≡ (leb 0x80 (get_or t i 0) && leb (get_or t i 0) 0xbf && begins (replicate (k - 1) tail) (drop (i + 1) t))
-unfolding tail
-tails_step zero t i l h = absurd (omega arith)
-tails_step (suc k) t i l h =
-    let e : suc k - 1 ≡ k = omega arith in
-    rw e (begins_step 0x80 0xbf (replicate k tail) t i h)
+abbrev pub NoTail : ℕ → Type 0
+NoTail c = 0x80 ≤ c → 0xbf < c
+
+pub tails_all : (k : ℕ) (w : List ℕ) → k ≤ length w → ((i : ℕ) → i < k → IsTail (get_or w i 0)) → begins (replicate k tail) w ≡ true
+unfolding begins tail
+tails_all zero w h f = refl
+tails_all (suc k) [] h f = absurd (omega arith)
+tails_all (suc k) (c ∷ w) h f =
+    rw (le-leb 0x80 c (f 0 (omega arith)).0, le-leb c 0xbf (f 0 (omega arith)).1) (tails_all k w (omega arith) (λ i g. f (suc i) (omega arith)))
+
+pub tails_some : (k : ℕ) (w : List ℕ) (i : ℕ) → i < k → NoTail (get_or w i 0) → begins (replicate k tail) w ≡ false
+unfolding begins tail
+tails_some zero w i h f = absurd (omega arith)
+tails_some (suc k) [] i h f = refl
+tails_some (suc k) (c ∷ w) zero h f = go (leb 0x80 c) refl
+  where
+    go : (b : Bool) → leb 0x80 c ≡ b → (b && leb c 0xbf && begins (replicate k tail) w) ≡ false
+    go true e = rw (lt-leb c 0xbf (f (leb-true 0x80 c e)))
+    go false e = refl
+tails_some (suc k) (c ∷ w) (suc i) h f = rw (tails_some k w i (omega arith) f) (both_false (leb 0x80 c) (leb c 0xbf))
+  where
+    both_false : (a b : Bool) → (a && b && false) ≡ false
+    both_false true true = refl
+    both_false true false = refl
+    both_false false b = refl
+
+pub tails_short : (k : ℕ) (w : List ℕ) → length w < k → begins (replicate k tail) w ≡ false
+unfolding begins tail
+tails_short zero w h = absurd (omega arith)
+tails_short (suc k) [] h = refl
+tails_short (suc k) (c ∷ w) h = rw (tails_short k w (omega arith)) (both_false (leb 0x80 c) (leb c 0xbf))
+  where
+    both_false : (a b : Bool) → (a && b && false) ≡ false
+    both_false true true = refl
+    both_false true false = refl
+    both_false false b = refl
+
+-- the same as a search of the first k bytes tells it
+pub tails_met : (k : ℕ) (w : List ℕ) (b : Bool) → k ≤ length w → MatchBool b (AllWithin IsTail (take k w) 0 (length (take k w))) ((i : ℕ) × (i < length (take k w)) × HoldsAt NoTail (take k w) i)
+    → b ≡ begins (replicate k tail) w
+tails_met k w true h m =
+    let n : length (take k w) ≡ k = simp length-take (omega arith) in
+    sym (tails_all k w h (λ i g. rw (get_or-take k w i 0 g) at (m i 0 (omega arith) (omega arith))))
+tails_met k w false h m =
+    let n : length (take k w) ≡ k = simp length-take (omega arith) in
+    let g : m.0 < k = omega (arith, m.1) in
+    sym (tails_some k w m.0 g (rw (get_or-take k w m.0 0 g) at (m.2 0)))
+
+-- the rest of a text, as a slice up to its end
+pub rest_part : (t : List ℕ) (at : ℕ) → take (length t - at) (drop at t) ≡ drop at t
+rest_part t at = take_all (length t - at) (drop at t) (omega (arith, length-drop at t))
 
 -- the k bytes that belong to the sequence before are passed over
 ill_skip : (w : List ℕ) (a k : ℕ) → ill_from w a k ≡ ill_from (drop k w) (a + k) 0
@@ -248,19 +293,17 @@ ascii_steps t i (suc n) h f =
     let z : get_or t i 0 < 128 = rw add-zero at (f 0 (omega arith)) in
     ascii_step t i (omega arith) z ∙ rw m at (ascii_steps t (i + 1) n (omega arith) (λ j g. let e : i + 1 + j ≡ i + suc j = omega arith in rw e (f (suc j) (omega arith))))
 
--- a part of the text whose highest byte is below 128 is passed
-pub ascii_part : (t : List ℕ) (i e b : ℕ) → i ≤ e → e ≤ length t → ((j : ℕ) → j < length (take (e - i) (drop i t)) → get_or (take (e - i) (drop i t)) j 0 ≤ b) → b < 128
-    → ill_from (drop i t) i 0 ≡ ill_from (drop e t) e 0
-ascii_part t i e b h k f l =
+-- a part of the text whose bytes are below 128 is passed
+pub ascii_part : (t : List ℕ) (i e : ℕ) → i ≤ e → e ≤ length t → ((j : ℕ) → get_or (take (e - i) (drop i t)) j 0 < 128) → ill_from (drop i t) i 0 ≡ ill_from (drop e t) e 0
+ascii_part t i e h k f =
     let m : i + (e - i) ≡ e = omega arith in
-    let n : length (take (e - i) (drop i t)) ≡ e - i = simp (length-take, length-drop) (omega arith) in
-    rw m at (ascii_steps t i (e - i) (omega arith) (λ j g. let x = f j (omega arith) in let y = rw (get_or-take (e - i) (drop i t) j 0 g, get_or-drop i t j 0) at x in omega arith))
+    rw m at (ascii_steps t i (e - i) (omega arith) (λ j g. let y = rw (get_or-take (e - i) (drop i t) j 0 g, get_or-drop i t j 0) at (f j) in omega arith))
 
 pub width_fits : (t : List ℕ) (i n : ℕ) → i < length t → n ≡ width sequences (drop i t) → i + n ≤ length t
 width_fits t i n h e = omega (arith, width_length (drop i t), length-drop i t)
 
 -- no sequence starts at i
-pub ill_here : (t : List ℕ) (i : ℕ) → i < length t → 0 ≡ width sequences (drop i t) → ill_from (drop i t) i 0 ≡ some i
+pub ill_here : (t : List ℕ) (i : ℕ) → i < length t → 0 ≡ width sequences (drop i t) → ill_from (drop i t) i 0 ≡ Some i
 unfolding ill_from sequence
 ill_here t i h e =
     let g : 0 ≡ width sequences (get_or t i 0 ∷ drop (suc i) t) = rw (← drop-cons t i 0 h) e in
@@ -269,26 +312,26 @@ ill_here t i h e =
 -- ---- texts, cut and joined
 
 -- a search that finds nothing finds nothing from any other offset
-ill_shift : (v : List ℕ) (a b n : ℕ) → ill_from v a n ≡ none → ill_from v b n ≡ none
+ill_shift : (v : List ℕ) (a b n : ℕ) → ill_from v a n ≡ None → ill_from v b n ≡ None
 unfolding ill_from sequence
 ill_shift [] a b n e = refl
 ill_shift (c ∷ v) a b (suc n) e = ill_shift v (suc a) (suc b) n e
 ill_shift (c ∷ v) a b zero e = go (width sequences (c ∷ v)) (ill_shift v (suc a) (suc b)) e
   where
-    go : (k : ℕ) → ((n : ℕ) → ill_from v (suc a) n ≡ none → ill_from v (suc b) n ≡ none)
-        → sequence k a (ill_from v (suc a)) ≡ none → sequence k b (ill_from v (suc b)) ≡ none
+    go : (k : ℕ) → ((n : ℕ) → ill_from v (suc a) n ≡ None → ill_from v (suc b) n ≡ None)
+        → sequence k a (ill_from v (suc a)) ≡ None → sequence k b (ill_from v (suc b)) ≡ None
     go zero ih h = cc
     go (suc k) ih h = ih k h
 
-pub well_shift : (v : List ℕ) (a : ℕ) → WellFormed v → ill_from v a 0 ≡ none
+pub well_shift : (v : List ℕ) (a : ℕ) → WellFormed v → ill_from v a 0 ≡ None
 unfolding ill_formed
 well_shift v a e = ill_shift v 0 a 0 e
 
-pub shift_well : (v : List ℕ) (a : ℕ) → ill_from v a 0 ≡ none → WellFormed v
+pub shift_well : (v : List ℕ) (a : ℕ) → ill_from v a 0 ≡ None → WellFormed v
 unfolding ill_formed
 shift_well v a e = ill_shift v a 0 0 e
 
-join_from : (u v : List ℕ) (a n : ℕ) → n ≤ length u → ill_from u a n ≡ none → ill_from (u ++ v) a n ≡ ill_from v (a + length u) 0
+join_from : (u v : List ℕ) (a n : ℕ) → n ≤ length u → ill_from u a n ≡ None → ill_from (u ++ v) a n ≡ ill_from v (a + length u) 0
 unfolding ill_from sequence
 join_from [] v a zero h e = rw add-zero
 join_from [] v a (suc n) h e = absurd (omega arith)
@@ -296,8 +339,8 @@ join_from (c ∷ u) v a (suc n) h e = join_from u v (suc a) n (omega arith) e �
 join_from (c ∷ u) v a zero h e = go (width sequences (c ∷ u)) refl (join_from u v (suc a)) e
   where
     go : (k : ℕ) → width sequences (c ∷ u) ≡ k
-        → ((n : ℕ) → n ≤ length u → ill_from u (suc a) n ≡ none → ill_from (u ++ v) (suc a) n ≡ ill_from v (suc a + length u) 0)
-        → sequence k a (ill_from u (suc a)) ≡ none
+        → ((n : ℕ) → n ≤ length u → ill_from u (suc a) n ≡ None → ill_from (u ++ v) (suc a) n ≡ ill_from v (suc a + length u) 0)
+        → sequence k a (ill_from u (suc a)) ≡ None
         → sequence (width sequences (c ∷ u ++ v)) a (ill_from (u ++ v) (suc a)) ≡ ill_from v (a + suc (length u)) 0
     go zero q ih h = cc
     go (suc k) q ih h =
@@ -311,14 +354,14 @@ ill_join u v e = join_from u v 0 0 (omega arith) e ∙ ap (λ (m : ℕ). ill_fro
 pub well_join : (u v : List ℕ) → WellFormed u → WellFormed v → WellFormed (u ++ v)
 well_join u v e f = ill_join u v e ∙ well_shift v (length u) f
 
-left_from : (u v : List ℕ) (a n : ℕ) → Starts v → ill_from (u ++ v) a n ≡ none → ill_from u a n ≡ none
+left_from : (u v : List ℕ) (a n : ℕ) → Starts v → ill_from (u ++ v) a n ≡ None → ill_from u a n ≡ None
 unfolding ill_from sequence
 left_from [] v a n s e = refl
 left_from (c ∷ u) v a (suc n) s e = left_from u v (suc a) n s e
 left_from (c ∷ u) v a zero s e = go (width sequences (c ∷ u)) (λ n. left_from u v (suc a) n s) (rw (width_cut c u v s) at e)
   where
-    go : (k : ℕ) → ((n : ℕ) → ill_from (u ++ v) (suc a) n ≡ none → ill_from u (suc a) n ≡ none)
-        → sequence k a (ill_from (u ++ v) (suc a)) ≡ none → sequence k a (ill_from u (suc a)) ≡ none
+    go : (k : ℕ) → ((n : ℕ) → ill_from (u ++ v) (suc a) n ≡ None → ill_from u (suc a) n ≡ None)
+        → sequence k a (ill_from (u ++ v) (suc a)) ≡ None → sequence k a (ill_from u (suc a)) ≡ None
     go zero ih h = h
     go (suc k) ih h = ih k h
 
@@ -334,7 +377,7 @@ abbrev pub Ascii : List ℕ → Type 0
 Ascii [] = Unit {0}
 Ascii (c ∷ w) = (c < 128) × Ascii w
 
-ascii_from : (w : List ℕ) (a : ℕ) → Ascii w → ill_from w a 0 ≡ none
+ascii_from : (w : List ℕ) (a : ℕ) → Ascii w → ill_from w a 0 ≡ None
 unfolding ill_from sequence
 ascii_from [] a h = refl
 ascii_from (c ∷ w) a h = rw (width_ascii c w h.0) (ascii_from w (suc a) h.1)

@@ -1,3 +1,2 @@
-pub mod Found
 pub mod Utf8
 pub mod Passed

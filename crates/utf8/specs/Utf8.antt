@@ -1,6 +1,6 @@
 -- UTF-8 as RFC 3629, section 4, has it: a row for each alternative of UTF8-char, with the ranges of its bytes.
 use Rattle.std.specs.Prelude.{ℕ, zero, suc, Bool, true, false, cond, ◌&&◌, List, [], ◌∷◌, ◌≡◌, leb, length}
-use Rattle.std.proofs.Math.Option.{Option, some, none}
+use Rattle.std.specs.Prelude.{Option, Some, None}
 use Rattle.token.specs.Regex.{Range, to}
 
 -- UTF8-tail
@@ -34,12 +34,12 @@ width (s ∷ ss) w = cond (begins s w) (length s) (width ss w)
 
 -- a sequence of n bytes starts at the offset `at`: go on behind it; where there is none, it is ill-formed
 unfoldable pub sequence : ℕ → ℕ → (ℕ → Option ℕ) → Option ℕ
-sequence zero at go = some at
+sequence zero at go = Some at
 sequence (suc n) at go = go n
 
 -- the offset of the first ill-formed sequence: the bytes left start at `at`, and n of them belong to the sequence before
 unfoldable pub ill_from : List ℕ → ℕ → ℕ → Option ℕ
-ill_from [] at n = none
+ill_from [] at n = None
 ill_from (c ∷ w) at (suc n) = ill_from w (suc at) n
 ill_from (c ∷ w) at zero = sequence (width sequences (c ∷ w)) at (ill_from w (suc at))
 
@@ -48,4 +48,4 @@ unfoldable pub ill_formed : List ℕ → Option ℕ
 ill_formed t = ill_from t 0 0
 
 abbrev pub WellFormed : List ℕ → Type 0
-WellFormed t = ill_formed t ≡ none
+WellFormed t = ill_formed t ≡ None

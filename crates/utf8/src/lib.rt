@@ -4,18 +4,10 @@
 ghost use Rattle.std.specs.Prelude.{◌≡◌, cond, List, ◌∷◌, ℕ, ◌+◌, ◌<◌, ◌≤◌, length, get_or, drop, replicate};
 ghost use Rattle.token.specs.Regex.{to};
 ghost use Rattle.utf8.specs.Utf8.{tail, sequences, begins, width, ill_formed};
-ghost use Rattle.utf8.specs.Found.{found};
 ghost use Rattle.utf8.specs.Passed.{Passed};
 
 // How much of a text is looked at at once.
 const PART: usize = 256;
-
-// An offset that a search finds.
-#[derive(Clone, Copy)]
-pub enum Found {
-    At(usize),
-    Nowhere,
-}
 
 // What a first byte asks of those behind it: the lowest and the highest second byte, and how many tail bytes follow that.
 #[derive(Clone, Copy)]
@@ -39,28 +31,14 @@ fn lead_of(first: u8) -> Lead
     }
 }
 
-// Whether `count` tail bytes stand at `at`.
-fn has_tails(text: &[u8], at: usize, count: usize) -> bool
-    requires { at ≤ length text.now }
-    ensures { result ≡ begins (replicate count tail) (drop at text.now) }
+// Whether a text begins with `count` tail bytes.
+fn has_tails(text: &[u8], count: usize) -> bool
+    ensures { result ≡ begins (replicate count tail) text.now }
 {
-    let mut i = at;
-    let mut left = count;
-    while 0 < left {
-        if text.len() <= i {
-            return false;
-        }
-        let byte = text[i];
-        if byte < 0x80 {
-            return false;
-        }
-        if 0xbf < byte {
-            return false;
-        }
-        i += 1;
-        left -= 1;
-    }
-    true
+    count <= text.len()
+        && text[..count]
+            .iter()
+            .all(|&byte| 0x80 <= byte && byte <= 0xbf)
 }
 
 // How long the sequence at `at` is, 0 if there is none; its first byte is from 128 on.
@@ -80,25 +58,10 @@ fn width_at(text: &[u8], at: usize) -> usize
     if high < byte {
         return 0;
     }
-    if has_tails(text, second + 1, tails) {
+    if has_tails(&text[second + 1..], tails) {
         return tails + 2;
     }
     0
-}
-
-// The highest byte of a text; 0 where it has none.
-fn highest(text: &[u8]) -> u8
-    ensures { (i : ℕ) → i < length text.now → get_or text.now i 0 ≤ result }
-{
-    let mut top: u8 = 0;
-    let mut i: usize = 0;
-    while i < text.len() {
-        if top < text[i] {
-            top = text[i];
-        }
-        i += 1;
-    }
-    top
 }
 
 // The sequences from `from` on that start before `stop`, passed: the offset behind them, or that of an ill-formed one, which is below `stop`.
@@ -107,6 +70,7 @@ fn pass_sequences(text: &[u8], from: usize, stop: usize) -> usize
     ensures { Passed text.now from stop result }
 {
     let mut at = from;
+    // a step is a sequence, of one to four bytes
     while at < stop {
         if text[at] < 128 {
             at += 1;
@@ -122,24 +86,25 @@ fn pass_sequences(text: &[u8], from: usize, stop: usize) -> usize
 }
 
 // The offset of the first ill-formed sequence. A part of the text without a byte from 128 on is passed whole.
-pub fn ill_formed(text: &[u8]) -> Found
-    ensures { result ≡ found (ill_formed text.now) }
+pub fn ill_formed(text: &[u8]) -> Option<usize>
+    ensures { result ≡ ill_formed text.now }
 {
     let mut at: usize = 0;
+    // a part ends behind its last sequence, so `chunks` would cut it
     while at < text.len() {
         let mut stop = text.len();
         if PART < stop - at {
             stop = at + PART;
         }
-        if highest(&text[at..stop]) < 128 {
+        if text[at..stop].is_ascii() {
             at = stop;
         } else {
             let behind = pass_sequences(text, at, stop);
             if behind < stop {
-                return Found::At(behind);
+                return Some(behind);
             }
             at = behind;
         }
     }
-    Found::Nowhere
+    None
 }

@@ -1,4 +1,4 @@
 pub mod Shapes
-pub mod Rounds
+pub mod KindNumbers
 pub mod PrintedFunctions
 pub mod PrintedDefinitions

@@ -5,7 +5,7 @@
 use mathlib.Core.Path.{◌≡◌, refl, sym, ◌∙◌}
 use mathlib.Core.Bool.{true, false, cond}
 use mathlib.Core.List.{List, [], ◌∷◌}
-use mathlib.Core.Option.{Option, some, none}
+use Rattle.std.specs.Prelude.{Option, Some, None}
 use Prim.Native.Nat.{ℕ, zero, suc, ◌+◌, ◌≤◌, ◌<◌}
 use native.Mathlib.Omega.{arith}
 use lib.Dec.{eqb, ltb}
@@ -250,8 +250,8 @@ module _ (j : Job) where
       ((m : ℕ) → Not 16 (unders ts q m R)) → At j (write_extends y r) n (unders (perhaps name_tree y ts) q n R) (noteds (perhaps name_tree y ts) n C) p o →
       let k = past name_tree y n in Got (At j r k (unders ts q k R) (noteds ts k C)) (extends_out j.text j.nodes j.count p o)
   unfolding extends_out write_extends perhaps past keyword unders under noteds name_tree leaf say_out ascii bytes_of
-  extends_printed none ts q n r R C p o g h a = rw (not_kind j 16 (omega arith) (h n) a) (got a)
-  extends_printed (some (lexeme t w l)) ts q n r R C p o (esome g) h a =
+  extends_printed None ts q n r R C p o g h a = rw (not_kind j 16 (omega arith) (h n) a) (got a)
+  extends_printed (Some (lexeme t w l)) ts q n r R C p o (esome g) h a =
       rw (kind_is j 16 q 0 l _ a) (on (puts3 j _ (λ r. refl) a) λ p o a. name_printed j (lexeme t w l) q n r _ _ p o g.holds a)
 
   -- ---- a definition

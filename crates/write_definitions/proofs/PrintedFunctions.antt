@@ -5,7 +5,7 @@ use mathlib.Core.Path.{◌≡◌, refl, sym, ap}
 use mathlib.Core.Logic.{◌⊎◌, inl, inr}
 use mathlib.Core.Bool.{Bool, true, false, cond}
 use mathlib.Core.List.{List, [], ◌∷◌}
-use mathlib.Core.Option.{Option, some, none}
+use Rattle.std.specs.Prelude.{Option, Some, None}
 use Prim.Native.Nat.{ℕ, zero, suc, ◌+◌, ◌≤◌, ◌<◌}
 use native.Mathlib.Omega.{arith}
 use lib.Dec.{eqb}
@@ -88,8 +88,8 @@ each_sizes f (x ∷ xs) ts = omega (arith, each_sizes f xs ts)
 
 throws_sizes : (th : Option (List Field)) (ts : Forest) → sizes (throws_trees th ts) ≡ sizes (throws_trees th bare) + sizes ts
 unfolding throws_trees sizes
-throws_sizes none ts = omega arith
-throws_sizes (some fs) ts = each_sizes (field_tree 16) fs ts
+throws_sizes None ts = omega arith
+throws_sizes (Some fs) ts = each_sizes (field_tree 16) fs ts
 
 -- ---- what is a parameter, and what is thrown
 
@@ -122,9 +122,9 @@ stops_behind thrown (annotations l xs) q m R h = first 14 q 0 l _ (inl refl)
 
 stops_throws : (th : Option (List Field)) (x : Annotations) (q m : ℕ) (R : Rows) → Not 12 R → Stops false (unders (throws_trees th (annotations_tree x bare)) q m R)
 unfolding throws_trees each field_tree unders under
-stops_throws none x q m R h = stops_behind false x q m R h
-stops_throws (some []) x q m R h = stops_behind false x q m R h
-stops_throws (some (field l c i y t n v a ∷ fs)) x q m R h = first 12 q (required_flag y + 16) l _ (inr (thrown_not y))
+stops_throws None x q m R h = stops_behind false x q m R h
+stops_throws (Some []) x q m R h = stops_behind false x q m R h
+stops_throws (Some (field l c i y t n v a ∷ fs)) x q m R h = first 12 q (required_flag y + 16) l _ (inr (thrown_not y))
 
 -- ---- the list of them
 
@@ -202,22 +202,22 @@ module _ (j : Job) where
       Got (At j r m (unders (annotations_tree x bare) q m R) (noteds (annotations_tree x bare) m C))
       (throws_out j.text j.nodes j.count j.comments j.total (oneway_flag w + throws_flag th) p o)
   unfolding throws_out throws_flag throws_trees write_throws oneway_flag sizes keyword say_out ascii bytes_of
-  throws_printed true none x q n r R C p o g i after stop late a = let e : n + 0 ≡ n = omega arith in rw e (got a)
-  throws_printed false none x q n r R C p o g i after stop late a = let e : n + 0 ≡ n = omega arith in rw e (got a)
-  throws_printed true (some fs) x q n r R C p o (esome g) i after stop late a =
+  throws_printed true None x q n r R C p o g i after stop late a = let e : n + 0 ≡ n = omega arith in rw e (got a)
+  throws_printed false None x q n r R C p o g i after stop late a = let e : n + 0 ≡ n = omega arith in rw e (got a)
+  throws_printed true (Some fs) x q n r R C p o (esome g) i after stop late a =
       on (puts4 j _ (λ r. refl) a) λ p o a.
       on (params_printed true 16 thrown_of fs (annotations_tree x bare) q n _ R C p o g i after (λ m. stops_behind true x q m R stop) late a) λ p o a. puts1 j _ (λ r. refl) a
-  throws_printed false (some fs) x q n r R C p o (esome g) i after stop late a =
+  throws_printed false (Some fs) x q n r R C p o (esome g) i after stop late a =
       on (puts4 j _ (λ r. refl) a) λ p o a.
       on (params_printed true 16 thrown_of fs (annotations_tree x bare) q n _ R C p o g i after (λ m. stops_behind true x q m R stop) late a) λ p o a. puts1 j _ (λ r. refl) a
 
   oneway_printed : (w : Bool) (th : Option (List Field)) (n : ℕ) (r : List Piece) (R C : Rows) (p : Cursor) (o : List ℕ) → At j (write_oneway w r) n R C p o →
       Got (At j r n R C) (oneway_out (oneway_flag w + throws_flag th) p o)
   unfolding oneway_out oneway_flag throws_flag write_oneway keyword say_out ascii bytes_of
-  oneway_printed true none n r R C p o a = puts2 j _ (λ r. refl) a
-  oneway_printed true (some fs) n r R C p o a = puts2 j _ (λ r. refl) a
-  oneway_printed false none n r R C p o a = got a
-  oneway_printed false (some fs) n r R C p o a = got a
+  oneway_printed true None n r R C p o a = puts2 j _ (λ r. refl) a
+  oneway_printed true (Some fs) n r R C p o a = puts2 j _ (λ r. refl) a
+  oneway_printed false None n r R C p o a = got a
+  oneway_printed false (Some fs) n r R C p o a = got a
 
   -- ---- a function
 

@@ -84,20 +84,6 @@ pub extends_is : (text nodes : List ℕ) (count : ℕ) (p : Cursor) (o : List �
 unfolding extends_out say_out ascii
 extends_is text nodes count p o = refl
 
-pub keyword_is : (k : ℕ) (p : Cursor) (o : List ℕ) → keyword_out k p o ≡
-    cond (eqb k 1) (put_out (105 ∷ 110 ∷ 99 ∷ 108 ∷ 117 ∷ 100 ∷ 101 ∷ 32 ∷ []) p o)
-    (cond (eqb k 2) (put_out (99 ∷ 112 ∷ 112 ∷ 95 ∷ 105 ∷ 110 ∷ 99 ∷ 108 ∷ 117 ∷ 100 ∷ 101 ∷ 32 ∷ []) p o)
-    (cond (eqb k 3) (put_out (110 ∷ 97 ∷ 109 ∷ 101 ∷ 115 ∷ 112 ∷ 97 ∷ 99 ∷ 101 ∷ 32 ∷ []) p o)
-    (cond (eqb k 4) (put_out (99 ∷ 111 ∷ 110 ∷ 115 ∷ 116 ∷ 32 ∷ []) p o)
-    (cond (eqb k 5) (put_out (116 ∷ 121 ∷ 112 ∷ 101 ∷ 100 ∷ 101 ∷ 102 ∷ 32 ∷ []) p o)
-    (cond (eqb k 6) (put_out (101 ∷ 110 ∷ 117 ∷ 109 ∷ 32 ∷ []) p o)
-    (cond (eqb k 7) (put_out (115 ∷ 116 ∷ 114 ∷ 117 ∷ 99 ∷ 116 ∷ 32 ∷ []) p o)
-    (cond (eqb k 8) (put_out (117 ∷ 110 ∷ 105 ∷ 111 ∷ 110 ∷ 32 ∷ []) p o)
-    (cond (eqb k 9) (put_out (101 ∷ 120 ∷ 99 ∷ 101 ∷ 112 ∷ 116 ∷ 105 ∷ 111 ∷ 110 ∷ 32 ∷ []) p o)
-    (put_out (115 ∷ 101 ∷ 114 ∷ 118 ∷ 105 ∷ 99 ∷ 101 ∷ 32 ∷ []) p o)))))))))
-unfolding keyword_out say_out ascii
-keyword_is k p o = refl
-
 pub namespace_is : (text nodes : List ℕ) (p : Cursor) (o : List ℕ) → namespace_out text nodes p o ≡
     then (token_out text nodes p o) (put_out (32 ∷ []) ⨟ (token_out text nodes ⨟ put_out (10 ∷ [])))
 unfolding namespace_out say_out ascii
@@ -107,14 +93,6 @@ pub const_is : (text nodes : List ℕ) (count : ℕ) (p : Cursor) (o : List ℕ)
     then (typed_name_out text nodes count p o) (put_out (32 ∷ 61 ∷ 32 ∷ []) ⨟ (value_out text nodes count 32 ⨟ put_out (10 ∷ [])))
 unfolding const_out say_out ascii
 const_is text nodes count p o = refl
-
-pub line_is : (text nodes : List ℕ) (count k : ℕ) (p : Cursor) (o : List ℕ) → line_out text nodes count k p o ≡
-    cond (ltb k 3) (then (token_out text nodes p o) (put_out (10 ∷ [])))
-    (cond (eqb k 3) (namespace_out text nodes p o)
-    (cond (eqb k 4) (const_out text nodes count p o)
-    (then (typed_name_out text nodes count p o) (put_out (10 ∷ [])))))
-unfolding line_out say_out ascii
-line_is text nodes count k p o = refl
 
 pub block_is : (text nodes : List ℕ) (count : ℕ) (comments : List ℕ) (total indent k : ℕ) (p : Cursor) (o : List ℕ) →
     block_out text nodes count comments total indent k p o ≡

@@ -1,12 +1,19 @@
 -- What each function that writes a function, an enum member or a definition does to where the printer stands and to the output. Contracts of this crate and of
 -- the printer cite it, and printer/proofs/Meant shows what it means; nothing else has to believe it.
-use Rattle.std.specs.Prelude.{true, false, cond, List, ℕ, zero, suc, ◌+◌, eqb, ltb}
+use Rattle.std.specs.Prelude.{Option, None, Some, true, false, cond, List, ℕ, zero, suc, ◌+◌, eqb, ltb}
 use Rattle.parser.specs.Definitions.{nesting}
 use Rattle.ast.specs.Column as C
 use Rattle.ast.specs.Kind as K
+use Rattle.ast.specs.KindNumber.{number_of}
+use Rattle.ast.specs.declared.kind.Kind.{Kind}
 use Rattle.ast.specs.Records.{node_width}
 use Rattle.cursor.specs.Onto.{reached, W, then, ◌⨟◌, number_at, kind_at, pass_node, say_out, token_out, spaces_out, comments_out}
 use Rattle.write_fields.specs.Onto.{value_out, annotations_out, assigned_out, typed_name_out, field_out, params_out}
+
+-- the number of a kind; of none 0
+unfoldable pub number : Option Kind → ℕ
+number None = 0
+number (Some k) = number_of k
 
 -- ---- functions and enum members
 

@@ -1,329 +1,238 @@
 // The print of functions, enum members and definitions: rico's writer/document.rs.
 #![tactic(auto)]
 
-ghost use Rattle.ast.specs.Records.{comment_width, node_width, room};
-ghost use Rattle.cursor.specs.Onto.{Writes};
-ghost use Rattle.write_definitions.specs.Onto.{throws_out, oneway_out, function_tail_out, function_out, member_out, one_out, members_from, body_out, extends_out, keyword_out, namespace_out, const_out, line_out, block_out, definition_out, document_out};
+ghost use Rattle.std.specs.Prelude.{◌≡◌, List, ℕ};
+ghost use Rattle.ast.specs.KindNumber.{number_of};
+ghost use Rattle.cursor.specs.declared.Cursor.{Cursor};
+ghost use Rattle.cursor.specs.Onto.{◌⨟◌, put_out, say_out, token_out};
+ghost use Rattle.cursor.specs.Writes.{Writes};
+ghost use Rattle.write_fields.specs.Onto.{typed_name_out};
+ghost use Rattle.write_definitions.specs.Onto.{number, throws_out, oneway_out, function_tail_out, function_out, member_out, one_out, members_from, body_out, extends_out, keyword_out, namespace_out, const_out, line_out, block_out, definition_out, document_out};
 
+use ast::kind::Kind;
 use ast::{NODE_WIDTH, column, flag};
-use cursor::Cursor;
+use cursor::Writer;
 
-// the flags of a function that is oneway and throws
+// flags stay numbers, as they add up in one of the lent table's: those of a function that is oneway and throws
 const ONEWAY_THROWS: u32 = flag::ONEWAY + flag::THROWS;
 
-fn write_throws(
-    text: &[u8],
-    nodes: &[u32],
-    comments: &[u32],
-    out: &mut [u8],
-    at: Cursor,
-    flags: u32,
-) -> Cursor
-    ensures { Writes (throws_out text.now nodes.now (room node_width nodes.now) comments.now (room comment_width comments.now) flags) at result out.old out.new }
+fn write_throws(w: &mut Writer, flags: u32)
+    ensures { Writes (λ x. throws_out x.text x.nodes x.count x.comments x.total flags) w.old w.new }
 {
     if flags < flag::THROWS {
-        return at;
+        return;
     }
-    let opened = cursor::put(out, at, b" throws (");
-    let inner = write_fields::write_params(text, nodes, comments, out, opened, true);
-    cursor::put(out, inner, b")")
+    w.put(b" throws (");
+    write_fields::write_params(w, true);
+    w.put(b")");
 }
 
-fn write_oneway(out: &mut [u8], at: Cursor, flags: u32) -> Cursor
-    ensures { Writes (oneway_out flags) at result out.old out.new }
+fn write_oneway(w: &mut Writer, flags: u32)
+    ensures { Writes (λ x. oneway_out flags) w.old w.new }
 {
-    if flags == flag::ONEWAY {
-        return cursor::put(out, at, b"oneway ");
+    if flags == flag::ONEWAY || flags == ONEWAY_THROWS {
+        w.put(b"oneway ");
     }
-    if flags == ONEWAY_THROWS {
-        return cursor::put(out, at, b"oneway ");
-    }
-    at
 }
 
 // behind the name of a function
-fn write_function_tail(
-    text: &[u8],
-    nodes: &[u32],
-    comments: &[u32],
-    out: &mut [u8],
-    at: Cursor,
-    owner: u32,
-    flags: u32,
-) -> Cursor
-    ensures { Writes (function_tail_out text.now nodes.now (room node_width nodes.now) comments.now (room comment_width comments.now) owner flags) at result out.old out.new }
+fn write_function_tail(w: &mut Writer, owner: u32, flags: u32)
+    ensures { Writes (λ x. function_tail_out x.text x.nodes x.count x.comments x.total owner flags) w.old w.new }
 {
-    let opened = cursor::put(out, at, b"(");
-    let params = write_fields::write_params(text, nodes, comments, out, opened, false);
-    let closed = cursor::put(out, params, b")");
-    let thrown = write_throws(text, nodes, comments, out, closed, flags);
-    let annotated = write_fields::write_annotations(text, nodes, out, thrown, owner);
-    cursor::put(out, annotated, b"\n")
+    w.put(b"(");
+    write_fields::write_params(w, false);
+    w.put(b")");
+    write_throws(w, flags);
+    write_fields::write_annotations(w, owner);
+    w.put(b"\n");
 }
 
 // write_function
-fn write_function(
-    text: &[u8],
-    nodes: &[u32],
-    comments: &[u32],
-    out: &mut [u8],
-    at: Cursor,
-    indent: u32,
-) -> Cursor
-    ensures { Writes (function_out text.now nodes.now (room node_width nodes.now) comments.now (room comment_width comments.now) indent) at result out.old out.new }
+fn write_function(w: &mut Writer)
+    ensures { Writes (λ x. function_out x.text x.nodes x.count x.comments x.total x.indent) w.old w.new }
 {
-    let noted = cursor::put_comments(text, comments, out, at, indent);
-    let spaced = cursor::put_spaces(out, noted, indent);
-    let flags = cursor::number_at(nodes, at.node, column::FLAGS);
-    let oneway = write_oneway(out, cursor::pass_node(spaced), flags);
-    let named = write_fields::write_typed_name(text, nodes, out, oneway);
-    write_function_tail(text, nodes, comments, out, named, at.node, flags)
+    let owner = w.at.node;
+    let flags = w.number(column::FLAGS);
+    w.start_line();
+    write_oneway(w, flags);
+    write_fields::write_typed_name(w);
+    write_function_tail(w, owner, flags);
 }
 
 // the members of write_enum
-fn write_member(
-    text: &[u8],
-    nodes: &[u32],
-    comments: &[u32],
-    out: &mut [u8],
-    at: Cursor,
-    indent: u32,
-) -> Cursor
-    ensures { Writes (member_out text.now nodes.now (room node_width nodes.now) comments.now (room comment_width comments.now) indent) at result out.old out.new }
+fn write_member(w: &mut Writer)
+    ensures { Writes (λ x. member_out x.text x.nodes x.count x.comments x.total x.indent) w.old w.new }
 {
-    let noted = cursor::put_comments(text, comments, out, at, indent);
-    let spaced = cursor::put_spaces(out, noted, indent);
-    let named = cursor::put_token(text, nodes, out, cursor::pass_node(spaced));
-    let value = write_fields::write_initializer(text, nodes, out, named, at.node);
-    if cursor::parent_at(nodes, value.node) != at.node {
-        return cursor::put(out, value, b",\n"); // no annotations
+    let owner = w.at.node;
+    w.start_line();
+    w.put_token();
+    if w.parent() != owner {
+        return w.put(b",\n"); // neither a value nor annotations
     }
-    let annotated = write_fields::write_annotations(text, nodes, out, value, at.node);
-    cursor::put(out, annotated, b",\n")
+    write_fields::write_initializer(w, owner);
+    write_fields::write_annotations(w, owner);
+    w.put(b",\n");
 }
 
 // a member, by its kind: function, field, enum member
-fn write_one(
-    text: &[u8],
-    nodes: &[u32],
-    comments: &[u32],
-    out: &mut [u8],
-    at: Cursor,
-    indent: u32,
-    kind: u32,
-) -> Cursor
-    ensures { Writes (one_out text.now nodes.now (room node_width nodes.now) comments.now (room comment_width comments.now) indent kind) at result out.old out.new }
+fn write_one(w: &mut Writer, kind: Kind)
+    ensures { Writes (λ x. one_out x.text x.nodes x.count x.comments x.total x.indent (number_of kind)) w.old w.new }
 {
-    if kind == ast::kind::FUNCTION {
-        return write_function(text, nodes, comments, out, at, indent);
+    match kind {
+        Kind::Function => write_function(w),
+        Kind::Field => write_fields::write_field(w),
+        _ => write_member(w),
     }
-    if kind == ast::kind::FIELD {
-        return write_fields::write_field(text, nodes, comments, out, at, indent);
-    }
-    write_member(text, nodes, comments, out, at, indent)
 }
 
-fn write_members(
-    text: &[u8],
-    nodes: &[u32],
-    comments: &[u32],
-    out: &mut [u8],
-    at: Cursor,
-    indent: u32,
-    kind: u32,
-) -> Cursor
-    ensures { Writes (members_from text.now nodes.now (room node_width nodes.now) comments.now (room comment_width comments.now) indent kind (room node_width nodes.now)) at result out.old out.new }
+fn write_members(w: &mut Writer, kind: Kind)
+    ensures { Writes (λ x. members_from x.text x.nodes x.count x.comments x.total x.indent (number_of kind) x.count) w.old w.new }
 {
-    let mut now = at;
-    let mut left = nodes.len() / NODE_WIDTH;
-    while 0 < left {
-        if cursor::kind_at(nodes, now.node) != kind {
-            return now;
+    for _ in 0..w.nodes.len() / NODE_WIDTH {
+        if !w.is(kind) {
+            return;
         }
-        now = write_one(text, nodes, comments, out, now, indent, kind);
-        left -= 1;
+        write_one(w, kind);
     }
-    now
 }
 
 // ` {`, the members each on its lines, `}`
-fn write_body(
-    text: &[u8],
-    nodes: &[u32],
-    comments: &[u32],
-    out: &mut [u8],
-    at: Cursor,
-    indent: u32,
-    kind: u32,
-) -> Cursor
-    ensures { Writes (body_out text.now nodes.now (room node_width nodes.now) comments.now (room comment_width comments.now) indent kind) at result out.old out.new }
+fn write_body(w: &mut Writer, kind: Kind)
+    ensures { Writes (λ x. body_out x.text x.nodes x.count x.comments x.total x.indent (number_of kind)) w.old w.new }
 {
-    let opened = cursor::put(out, at, b" {\n");
-    let members = write_members(text, nodes, comments, out, opened, indent, kind);
-    cursor::put(out, members, b"}")
+    w.put(b" {\n");
+    write_members(w, kind);
+    w.put(b"}");
 }
 
-fn write_extends(text: &[u8], nodes: &[u32], out: &mut [u8], at: Cursor) -> Cursor
-    ensures { Writes (extends_out text.now nodes.now (room node_width nodes.now)) at result out.old out.new }
+fn write_extends(w: &mut Writer)
+    ensures { Writes (λ x. extends_out x.text x.nodes x.count) w.old w.new }
 {
-    if cursor::kind_at(nodes, at.node) != ast::kind::NAME {
-        return at;
+    if w.is(Kind::Name) {
+        w.put(b" extends ");
+        w.put_token();
     }
-    let extends = cursor::put(out, at, b" extends ");
-    cursor::put_token(text, nodes, out, extends)
 }
 
-fn put_keyword(out: &mut [u8], at: Cursor, kind: u32) -> Cursor
-    ensures { Writes (keyword_out kind) at result out.old out.new }
+// the keyword of a definition, and a space
+fn keyword(kind: Option<Kind>) -> &'static [u8]
+    ensures { (p : Cursor) (o : List ℕ) → keyword_out (number kind) p o ≡ put_out result.now p o }
 {
-    if kind == ast::kind::INCLUDE {
-        return cursor::put(out, at, b"include ");
+    let Some(kind) = kind else {
+        return b"service ";
+    };
+    match kind {
+        Kind::Include => b"include ",
+        Kind::CppInclude => b"cpp_include ",
+        Kind::Namespace => b"namespace ",
+        Kind::Const => b"const ",
+        Kind::Typedef => b"typedef ",
+        Kind::Enum => b"enum ",
+        Kind::Struct => b"struct ",
+        Kind::Union => b"union ",
+        Kind::Exception => b"exception ",
+        _ => b"service ",
     }
-    if kind == ast::kind::CPP_INCLUDE {
-        return cursor::put(out, at, b"cpp_include ");
-    }
-    if kind == ast::kind::NAMESPACE {
-        return cursor::put(out, at, b"namespace ");
-    }
-    if kind == ast::kind::CONST {
-        return cursor::put(out, at, b"const ");
-    }
-    if kind == ast::kind::TYPEDEF {
-        return cursor::put(out, at, b"typedef ");
-    }
-    if kind == ast::kind::ENUM {
-        return cursor::put(out, at, b"enum ");
-    }
-    if kind == ast::kind::STRUCT {
-        return cursor::put(out, at, b"struct ");
-    }
-    if kind == ast::kind::UNION {
-        return cursor::put(out, at, b"union ");
-    }
-    if kind == ast::kind::EXCEPTION {
-        return cursor::put(out, at, b"exception ");
-    }
-    cursor::put(out, at, b"service ")
 }
 
 // namespace, behind its keyword
-fn write_namespace(text: &[u8], nodes: &[u32], out: &mut [u8], at: Cursor) -> Cursor
-    ensures { Writes (namespace_out text.now nodes.now) at result out.old out.new }
+fn write_namespace(w: &mut Writer)
+    ensures { Writes (λ x. namespace_out x.text x.nodes) w.old w.new }
 {
-    let scope = cursor::put_token(text, nodes, out, at);
-    let parted = cursor::put(out, scope, b" ");
-    let named = cursor::put_token(text, nodes, out, parted);
-    cursor::put(out, named, b"\n")
+    w.put_token();
+    w.put(b" ");
+    w.put_token();
+    w.put(b"\n");
 }
 
 // const, behind its keyword
-fn write_const(text: &[u8], nodes: &[u32], out: &mut [u8], at: Cursor) -> Cursor
-    ensures { Writes (const_out text.now nodes.now (room node_width nodes.now)) at result out.old out.new }
+fn write_const(w: &mut Writer)
+    ensures { Writes (λ x. const_out x.text x.nodes x.count) w.old w.new }
 {
-    let named = write_fields::write_typed_name(text, nodes, out, at);
-    let equals = cursor::put(out, named, b" = ");
-    let value = write_fields::write_value(text, nodes, out, equals, parser::NESTING);
-    cursor::put(out, value, b"\n")
+    write_fields::write_typed_name(w);
+    w.put(b" = ");
+    write_fields::write_value(w, parser::NESTING);
+    w.put(b"\n");
+}
+
+// include, behind its keyword
+fn write_include(w: &mut Writer)
+    ensures { Writes (λ x. token_out x.text x.nodes ⨟ say_out "\n") w.old w.new }
+{
+    w.put_token();
+    w.put(b"\n");
+}
+
+// typedef, behind its keyword
+fn write_typedef(w: &mut Writer)
+    ensures { Writes (λ x. typed_name_out x.text x.nodes x.count ⨟ say_out "\n") w.old w.new }
+{
+    write_fields::write_typed_name(w);
+    w.put(b"\n");
 }
 
 // a definition of one line, behind its keyword
-fn write_line(text: &[u8], nodes: &[u32], out: &mut [u8], at: Cursor, kind: u32) -> Cursor
-    ensures { Writes (line_out text.now nodes.now (room node_width nodes.now) kind) at result out.old out.new }
+fn write_line(w: &mut Writer, kind: Option<Kind>)
+    ensures { Writes (λ x. line_out x.text x.nodes x.count (number kind)) w.old w.new }
 {
-    if kind < ast::kind::NAMESPACE {
-        let named = cursor::put_token(text, nodes, out, at);
-        return cursor::put(out, named, b"\n");
+    let Some(kind) = kind else {
+        return write_include(w);
+    };
+    match kind {
+        Kind::Include => write_include(w),
+        Kind::CppInclude => write_include(w),
+        Kind::Namespace => write_namespace(w),
+        Kind::Const => write_const(w),
+        _ => write_typedef(w),
     }
-    if kind == ast::kind::NAMESPACE {
-        return write_namespace(text, nodes, out, at);
-    }
-    if kind == ast::kind::CONST {
-        return write_const(text, nodes, out, at);
-    }
-    let typed = write_fields::write_typed_name(text, nodes, out, at);
-    cursor::put(out, typed, b"\n")
 }
 
 // a definition with a body, between its keyword and its annotations
-fn write_block(
-    text: &[u8],
-    nodes: &[u32],
-    comments: &[u32],
-    out: &mut [u8],
-    at: Cursor,
-    indent: u32,
-    kind: u32,
-) -> Cursor
-    ensures { Writes (block_out text.now nodes.now (room node_width nodes.now) comments.now (room comment_width comments.now) indent kind) at result out.old out.new }
+fn write_block(w: &mut Writer, kind: Option<Kind>)
+    ensures { Writes (λ x. block_out x.text x.nodes x.count x.comments x.total x.indent (number kind)) w.old w.new }
 {
-    let named = cursor::put_token(text, nodes, out, at);
-    if kind == ast::kind::ENUM {
-        return write_body(
-            text,
-            nodes,
-            comments,
-            out,
-            named,
-            indent,
-            ast::kind::ENUM_MEMBER,
-        );
+    w.put_token();
+    let Some(kind) = kind else {
+        return write_body(w, Kind::Field);
+    };
+    match kind {
+        Kind::Enum => write_body(w, Kind::EnumMember),
+        Kind::Service => {
+            write_extends(w);
+            write_body(w, Kind::Function);
+        }
+        _ => write_body(w, Kind::Field),
     }
-    if kind == ast::kind::SERVICE {
-        let extended = write_extends(text, nodes, out, named);
-        return write_body(
-            text,
-            nodes,
-            comments,
-            out,
-            extended,
-            indent,
-            ast::kind::FUNCTION,
-        );
-    }
-    write_body(text, nodes, comments, out, named, indent, ast::kind::FIELD)
 }
 
 // a definition
-fn write_definition(
-    text: &[u8],
-    nodes: &[u32],
-    comments: &[u32],
-    out: &mut [u8],
-    at: Cursor,
-    indent: u32,
-) -> Cursor
-    ensures { Writes (definition_out text.now nodes.now (room node_width nodes.now) comments.now (room comment_width comments.now) indent) at result out.old out.new }
+fn write_definition(w: &mut Writer)
+    ensures { Writes (λ x. definition_out x.text x.nodes x.count x.comments x.total x.indent) w.old w.new }
 {
-    let kind = cursor::kind_at(nodes, at.node);
-    let noted = cursor::put_comments(text, comments, out, at, 0);
-    let word = put_keyword(out, cursor::pass_node(noted), kind);
-    if kind < ast::kind::ENUM {
-        return write_line(text, nodes, out, word, kind);
+    let owner = w.at.node;
+    let number = w.kind_number();
+    let kind = w.kind();
+    w.put_comments(0);
+    w.pass_node();
+    w.put(keyword(kind));
+    // by the number: what is printed is said of those too that no kind has
+    if number < Kind::Enum.number() {
+        return write_line(w, kind);
     }
-    let block = write_block(text, nodes, comments, out, word, indent, kind);
-    let annotated = write_fields::write_annotations(text, nodes, out, block, at.node);
-    cursor::put(out, annotated, b"\n")
+    write_block(w, kind);
+    write_fields::write_annotations(w, owner);
+    w.put(b"\n");
 }
 
 // all definitions
-pub fn write_document(
-    text: &[u8],
-    nodes: &[u32],
-    comments: &[u32],
-    out: &mut [u8],
-    at: Cursor,
-    indent: u32,
-) -> Cursor
-    ensures { Writes (document_out text.now nodes.now (room node_width nodes.now) comments.now (room comment_width comments.now) indent) at result out.old out.new }
+pub fn write_document(w: &mut Writer)
+    ensures { Writes (λ x. document_out x.text x.nodes x.count x.comments x.total x.indent) w.old w.new }
 {
-    let mut now = at;
-    let mut left = nodes.len() / NODE_WIDTH;
-    while 0 < left {
-        if nodes.len() / NODE_WIDTH <= now.node as usize {
-            return now;
+    let count = w.nodes.len() / NODE_WIDTH;
+    for _ in 0..count {
+        if count <= w.at.node as usize {
+            return;
         }
-        now = write_definition(text, nodes, comments, out, now, indent);
-        left -= 1;
+        write_definition(w);
     }
-    now
 }

@@ -1,5 +1,4 @@
 pub mod Shapes
-pub mod Rounds
 pub mod Ahead
 pub mod Follow
 pub mod PrintedLeaves

@@ -6,7 +6,7 @@
 use mathlib.Core.Path.{◌≡◌, refl, sym}
 use mathlib.Core.Bool.{Bool, true, false, cond}
 use mathlib.Core.List.{List, [], ◌∷◌}
-use mathlib.Core.Option.{Option, some, none}
+use Rattle.std.specs.Prelude.{Option, Some, None}
 use Prim.Native.Nat.{ℕ, zero, suc, ◌+◌, ◌≤◌, ◌<◌}
 use native.Mathlib.Omega.{arith}
 use lib.Dec.{eqb}
@@ -95,13 +95,13 @@ use Rattle.write_fields.proofs.PrintedValues.{value_printed, annotations_printed
 -- ---- the number behind what may be there
 
 unfoldable pub past : {A : Type 0} → (A → Tree) → Option A → ℕ → ℕ
-past f none n = n
-past f (some x) n = n + size (f x)
+past f None n = n
+past f (Some x) n = n + size (f x)
 
 pub past_perhaps : {A : Type 0} (f : A → Tree) (v : Option A) (ts : Forest) (n : ℕ) → past f v n + sizes ts ≡ n + sizes (perhaps f v ts)
 unfolding past perhaps sizes
-past_perhaps f none ts n = refl
-past_perhaps f (some x) ts n = omega arith
+past_perhaps f None ts n = refl
+past_perhaps f (Some x) ts n = omega arith
 
 -- the first row of a type, and of a value
 type_row : (t : FieldType) (q n : ℕ) (R : Rows) → Not 17 (under (type_tree t) q n R)
@@ -143,18 +143,18 @@ value_row (ConstMap l ps) q n R = begins 30 q 0 l _ (refl, refl)
 
 -- what is written of what may be assigned
 unfoldable pub write_assigned : {A : Type 0} → (A → List Piece → List Piece) → Option A → List Piece → List Piece
-write_assigned w none r = r
-write_assigned w (some v) r = space ∷ mark Tok.Equals 61 ∷ space ∷ w v r
+write_assigned w None r = r
+write_assigned w (Some v) r = space ∷ mark Tok.Equals 61 ∷ space ∷ w v r
 
 pub default_is : (v : Option FieldInitialValue) (r : List Piece) → write_default v r ≡ write_assigned write_value v r
 unfolding write_default write_assigned
-default_is none r = refl
-default_is (some v) r = refl
+default_is None r = refl
+default_is (Some v) r = refl
 
 pub initializer_is : (v : Option Lexeme) (r : List Piece) → write_initializer v r ≡ write_assigned (λ t r. own t ∷ r) v r
 unfolding write_initializer write_assigned
-initializer_is none r = refl
-initializer_is (some v) r = refl
+initializer_is None r = refl
+initializer_is (Some v) r = refl
 
 no_id : (t : FieldType) (ts : Forest) (q n : ℕ) (R : Rows) → Not 17 (unders (grown (type_tree t) ts) q n R)
 unfolding unders
@@ -162,8 +162,8 @@ no_id t ts q n R = type_row t q n (unders ts q (n + size (type_tree t)) R)
 
 pub past_later : {A : Type 0} (f : A → Tree) (v : Option A) (n : ℕ) → n ≤ past f v n
 unfolding past
-past_later f none n = omega arith
-past_later f (some x) n = omega arith
+past_later f None n = omega arith
+past_later f (Some x) n = omega arith
 
 -- ---- annotations own no comments, and can be passed
 
@@ -227,8 +227,8 @@ module _ (j : Job) where
       At j (write_id i r) n (unders (perhaps id_tree i ts) q n R) (noteds (perhaps id_tree i ts) n C) p o →
       Got (At j r (past id_tree i n) (unders ts q (past id_tree i n) R) (noteds ts (past id_tree i n) C)) (id_out j.text j.nodes j.count p o)
   unfolding write_id perhaps past id_out
-  id_printed none ts q n r R C p o g h a = rw (not_kind j 17 (omega arith) h a) (got a)
-  id_printed (some x) ts q n r R C p o (esome g) h a = some_id_printed x ts q n r R C p o g a
+  id_printed None ts q n r R C p o g h a = rw (not_kind j 17 (omega arith) h a) (got a)
+  id_printed (Some x) ts q n r R C p o (esome g) h a = some_id_printed x ts q n r R C p o g a
 
   pub required_printed : (x : Required) (n : ℕ) (r : List Piece) (R C : Rows) (p : Cursor) (o : List ℕ) → At j (write_required x r) n R C p o →
       Got (At j r n R C) (required_out (required_flag x + 0) p o)
@@ -272,8 +272,8 @@ module _ (j : Job) where
         let k = past f v n in
         Got (At j r k (unders (annotations_tree x bare) q k R) (noteds (annotations_tree x bare) k C)) (assigned_out j.nodes j.count q value p o)
     unfolding assigned_out write_assigned perhaps past unders noteds say_out ascii bytes_of
-    assigned_printed none x q n r R C p o g h i b a = rw (no_value q x h b a) (got a)
-    assigned_printed (some v) x q n r R C p o (esome g) h i b a =
+    assigned_printed None x q n r R C p o g h i b a = rw (no_value q x h b a) (got a)
+    assigned_printed (Some v) x q n r R C p o (esome g) h i b a =
         rw (has_value_law q (head v q n _) a)
         (on (puts3 j _ (λ r. refl) a) λ p o a.
         step v q n r (unders (annotations_tree x bare) q (n + size (f v)) R) _ p o g (after_forest (annotations_tree x bare) q n (n + size (f v)) R i b) a)

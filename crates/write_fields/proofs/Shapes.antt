@@ -1,14 +1,13 @@
 -- What each function of this crate is, as its first call and what follows it, strings as bytes; its tests are those of the code.
 --     ..-is                     a function of the output, one law each; the loops' are in Rounds
 --     no_value, value_unless    has_value
---     is_of_less, is_of_more    is_of
 use mathlib.Core.Path.{◌≡◌, refl, sym, ap, ◌∙◌}
-use mathlib.Core.Bool.{Bool, true, false, not, cond}
+use mathlib.Core.Bool.{Bool, true, false, not, beq, cond}
 use mathlib.Core.List.{List, [], ◌∷◌}
-use Prim.Native.Nat.{ℕ, zero, suc, ◌-◌, ◌<◌, ◌≤◌}
+use Prim.Native.Nat.{ℕ, zero, suc, ◌-◌}
 use native.Mathlib.Omega.{arith}
-use lib.Dec.{eqb}
-use borrow.Author.Tests.{eq-eqb, ne_eqb, lt-ltb, le-ltb}
+use lib.Dec.{eqb, ltb, leb}
+use borrow.Author.Tests.{eq-eqb, ne_eqb, lt-leb, le-leb, ltb-true, ltb-false}
 use Rattle.token.specs.Regex.{bytes as ascii}
 use Rattle.ast.specs.Column as Col
 use Rattle.ast.specs.Records.{node_width}
@@ -55,12 +54,10 @@ pub type_is : (text nodes : List ℕ) (count d : ℕ) (p : Cursor) (o : List ℕ
     type_out text nodes count d p o ≡ type_by text nodes count (eqb d 0) k (d - 1) p o
 type_is text nodes count d p o h = type_at text nodes count d p o ∙ ap (λ (x : ℕ). type_by text nodes count (eqb d 0) x (d - 1) p o) (sym h)
 
--- a type of a small kind is one token
-pub type_token : (text nodes : List ℕ) (count d : ℕ) (p : Cursor) (o : List ℕ) {k : ℕ} → k ≡ kind_at nodes count p.node → k < 20 →
-    type_out text nodes count d p o ≡ token_out text nodes p o
-type_token text nodes count d p o {k} h l =
-    type_is text nodes count d p o h
-    ∙ rw (ne_eqb k 20 (λ e. omega (arith, e, l)), ne_eqb k 21 (λ e. omega (arith, e, l)), ne_eqb k 22 (λ e. omega (arith, e, l))) (either (eqb d 0) (token_out text nodes p o))
+-- a type that is no container is one token
+pub type_token : (text nodes : List ℕ) (count d : ℕ) (p : Cursor) (o : List ℕ) → let k = kind_at nodes count p.node in
+    eqb k 20 ≡ false → eqb k 21 ≡ false → eqb k 22 ≡ false → type_out text nodes count d p o ≡ token_out text nodes p o
+type_token text nodes count d p o f g h = type_is text nodes count d p o refl ∙ rw (f, g, h) (either (eqb d 0) (token_out text nodes p o))
 
 -- ---- values
 
@@ -102,12 +99,10 @@ pub value_is : (text nodes : List ℕ) (count d : ℕ) (p : Cursor) (o : List �
     value_out text nodes count d p o ≡ value_by text nodes count (eqb d 0) k (d - 1) p o
 value_is text nodes count d p o h = value_at_law text nodes count d p o ∙ ap (λ (x : ℕ). value_by text nodes count (eqb d 0) x (d - 1) p o) (sym h)
 
--- a value of a small kind is one token
-pub value_token : (text nodes : List ℕ) (count d : ℕ) (p : Cursor) (o : List ℕ) {k : ℕ} → k ≡ kind_at nodes count p.node → k < 29 →
-    value_out text nodes count d p o ≡ token_out text nodes p o
-value_token text nodes count d p o {k} h l =
-    value_is text nodes count d p o h
-    ∙ rw (ne_eqb k 29 (λ e. omega (arith, e, l)), ne_eqb k 30 (λ e. omega (arith, e, l))) (either (eqb d 0) (token_out text nodes p o))
+-- a value that is no container is one token
+pub value_token : (text nodes : List ℕ) (count d : ℕ) (p : Cursor) (o : List ℕ) → let k = kind_at nodes count p.node in
+    eqb k 29 ≡ false → eqb k 30 ≡ false → value_out text nodes count d p o ≡ token_out text nodes p o
+value_token text nodes count d p o f g = value_is text nodes count d p o refl ∙ rw (f, g) (either (eqb d 0) (token_out text nodes p o))
 
 -- ---- annotations
 
@@ -116,19 +111,27 @@ pub annotation_is : (text nodes : List ℕ) (p : Cursor) (o : List ℕ) → anno
 unfolding annotation_out say_out ascii
 annotation_is text nodes p o = refl
 
+pub block_is : (text nodes : List ℕ) (count : ℕ) (p : Cursor) (o : List ℕ) → brackets_out nodes count " (" ")" (annotation_out text nodes) p o ≡
+    then (pass_node p o) (put_out (32 ∷ 40 ∷ []) ⨟ (each_out nodes count p.node (annotation_out text nodes) true count ⨟ put_out (41 ∷ [])))
+unfolding brackets_out say_out ascii
+block_is text nodes count p o = refl
+
 pub annotations_is : (text nodes : List ℕ) (count owner : ℕ) (p : Cursor) (o : List ℕ) → annotations_out text nodes count owner p o ≡
     cond (eqb (parent_at node_width nodes count p.node) owner)
-    (cond (eqb (kind_at nodes count p.node) 14)
-    (then (pass_node p o) (put_out (32 ∷ 40 ∷ []) ⨟ (each_out nodes count p.node (annotation_out text nodes) true count ⨟ put_out (41 ∷ []))))
-    (reached p o))
+    (cond (eqb (kind_at nodes count p.node) 14) (brackets_out nodes count " (" ")" (annotation_out text nodes) p o) (reached p o))
     (reached p o)
-unfolding annotations_out brackets_out say_out ascii
+unfolding annotations_out
 annotations_is text nodes count owner p o = refl
 
-pub annotations_none : (text nodes : List ℕ) (count owner : ℕ) (p : Cursor) (o : List ℕ) {x : ℕ} → x ≡ parent_at node_width nodes count p.node → (x ≡ owner → ⊥) →
-    reached p o ≡ annotations_out text nodes count owner p o
-unfolding annotations_out
-annotations_none text nodes count owner p o {x} e h = rw (sym e, ne_eqb x owner h)
+-- an owner with nothing ahead
+module _ (nodes : List ℕ) (count owner : ℕ) (p : Cursor) (o : List ℕ) {x : ℕ} (e : x ≡ parent_at node_width nodes count p.node) (h : x ≡ owner → ⊥) where
+  pub annotations_none : (text : List ℕ) → annotations_out text nodes count owner p o ≡ reached p o
+  unfolding annotations_out
+  annotations_none text = rw (sym e, ne_eqb x owner h)
+
+  pub assigned_none : (value : W) → assigned_out nodes count owner value p o ≡ reached p o
+  unfolding assigned_out has_value
+  assigned_none value = rw (sym e, ne_eqb x owner h)
 
 -- ---- fields
 
@@ -144,19 +147,14 @@ pub required_is : (f : ℕ) (p : Cursor) (o : List ℕ) → required_out f p o �
 unfolding required_out say_out ascii
 required_is f p o = refl
 
-pub no_value : (nodes : List ℕ) (count owner n : ℕ) {x : ℕ} → x ≡ parent_at node_width nodes count n → (x ≡ owner → ⊥) → false ≡ has_value nodes count owner n
+pub no_value : (nodes : List ℕ) (count owner n : ℕ) {x : ℕ} → x ≡ parent_at node_width nodes count n → (x ≡ owner → ⊥) → eqb x owner ≡ has_value nodes count owner n
 unfolding has_value
-no_value nodes count owner n {x} e h =
-    sym (ap (λ (b : Bool). cond b (cond (eqb (kind_at nodes count n) 14) false true) false) (ap (λ (y : ℕ). eqb y owner) (sym e) ∙ ne_eqb x owner h))
+no_value nodes count owner n {x} e h = ne_eqb x owner h ∙ sym (rw (sym e, ne_eqb x owner h))
 
-pub value_unless : (nodes : List ℕ) (count owner n : ℕ) {x y : ℕ} → x ≡ parent_at node_width nodes count n → x ≡ owner → y ≡ kind_at nodes count n →
-    not (eqb y 14) ≡ has_value nodes count owner n
+pub value_unless : (nodes : List ℕ) (count owner n : ℕ) {x : ℕ} {b : Bool} → x ≡ parent_at node_width nodes count n → x ≡ owner → b ≡ eqb (kind_at nodes count n) 14 →
+    not b ≡ has_value nodes count owner n
 unfolding has_value
-value_unless nodes count owner n {x} {y} e h k =
-    let is : eqb (parent_at node_width nodes count n) owner ≡ true = ap (λ (z : ℕ). eqb z owner) (sym e) ∙ eq-eqb x owner h in
-    negation (eqb y 14)
-    ∙ ap (λ (z : ℕ). cond (eqb z 14) false true) k
-    ∙ sym (ap (λ (b : Bool). cond b (cond (eqb (kind_at nodes count n) 14) false true) false) is)
+value_unless nodes count owner n {x} {b} e h k = ap not k ∙ negation (eqb (kind_at nodes count n) 14) ∙ sym (rw (sym e, eq-eqb x owner h))
   where
     negation : (b : Bool) → not b ≡ cond b false true
     negation true = refl
@@ -199,11 +197,12 @@ pub param_is : (text nodes : List ℕ) (count : ℕ) (comments : List ℕ) (tota
 unfolding param_out
 param_is text nodes count comments total p o = refl
 
-pub is_of_less : (thrown : Bool) (f : ℕ) → f < 16 → not thrown ≡ is_of thrown f
+pub is_of_is : (thrown : Bool) (f : ℕ) → beq thrown (leb 16 f) ≡ is_of thrown f
 unfolding is_of
-is_of_less true f h = sym (ap (λ (b : Bool). cond b false true) (lt-ltb f 16 h))
-is_of_less false f h = sym (ap (λ (b : Bool). cond b true false) (lt-ltb f 16 h))
-
-pub is_of_more : (thrown : Bool) (f : ℕ) → 16 ≤ f → thrown ≡ is_of thrown f
-unfolding is_of
-is_of_more thrown f h = sym (ap (λ (b : Bool). cond b (cond thrown false true) thrown) (le-ltb f 16 h))
+is_of_is thrown f = go thrown (ltb f 16) refl
+  where
+    go : (t b : Bool) → ltb f 16 ≡ b → beq t (leb 16 f) ≡ cond b (cond t false true) t
+    go true true h = rw (lt-leb 16 f (ltb-true f 16 h))
+    go true false h = rw (le-leb 16 f (ltb-false f 16 h))
+    go false true h = rw (lt-leb 16 f (ltb-true f 16 h))
+    go false false h = rw (le-leb 16 f (ltb-false f 16 h))

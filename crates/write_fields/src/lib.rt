@@ -2,402 +2,313 @@
 #![tactic(auto)]
 
 ghost use Rattle.std.specs.Prelude.{◌≡◌, true};
-ghost use Rattle.ast.specs.Records.{comment_width, node_width, room};
-ghost use Rattle.cursor.specs.Onto.{Writes, token_out};
+ghost use Rattle.ast.specs.Records.{node_width, room};
+ghost use Rattle.cursor.specs.Onto.{W, ◌⨟◌, pass_node, put_out, token_out};
+ghost use Rattle.cursor.specs.Writes.{Source, Writes};
 ghost use Rattle.parser.specs.Definitions.{nesting};
 ghost use Rattle.write_fields.specs.Onto.{container_out, map_type_out, type_out, comma_out, each_out, property_out, brackets_out, value_out, annotation_out, annotations_out, id_out, required_out, has_value, assigned_out, typed_name_out, field_head_out, field_out, param_out, is_of, params_out};
 
+use ast::kind::Kind;
 use ast::{NODE_WIDTH, column, flag};
-use cursor::Cursor;
+use cursor::Writer;
 use parser::NESTING;
 
 // list< or set<, the contained type, >
 #[cycle(types)]
-fn write_container(
-    text: &[u8],
-    nodes: &[u32],
-    out: &mut [u8],
-    at: Cursor,
-    word: &[u8],
-    depth: u32,
-) -> Cursor
-    ensures { Writes (container_out word.now (type_out text.now nodes.now (room node_width nodes.now) depth)) at result out.old out.new }
+fn write_container(w: &mut Writer, word: &[u8], depth: u32)
+    ensures { Writes (λ x. container_out word.now (type_out x.text x.nodes x.count depth)) w.old w.new }
 {
-    let opened = cursor::put(out, cursor::pass_node(at), word);
-    let inner = write_type(text, nodes, out, opened, depth);
-    cursor::put(out, inner, b">")
+    w.pass_node();
+    w.put(word);
+    write_type(w, depth);
+    w.put(b">");
 }
 
 // map<, both types, >
 #[cycle(types)]
-fn write_map_type(text: &[u8], nodes: &[u32], out: &mut [u8], at: Cursor, depth: u32) -> Cursor
-    ensures { Writes (map_type_out (type_out text.now nodes.now (room node_width nodes.now) depth)) at result out.old out.new }
+fn write_map_type(w: &mut Writer, depth: u32)
+    ensures { Writes (λ x. map_type_out (type_out x.text x.nodes x.count depth)) w.old w.new }
 {
-    let opened = cursor::put(out, cursor::pass_node(at), b"map<");
-    let key = write_type(text, nodes, out, opened, depth);
-    let between = cursor::put(out, key, b", ");
-    let value = write_type(text, nodes, out, between, depth);
-    cursor::put(out, value, b">")
+    w.pass_node();
+    w.put(b"map<");
+    write_type(w, depth);
+    w.put(b", "); // behind the key
+    write_type(w, depth);
+    w.put(b">");
 }
 
 // write_field_type, with `depth` containers left
 #[cycle(types)]
-fn write_type(text: &[u8], nodes: &[u32], out: &mut [u8], at: Cursor, depth: u32) -> Cursor
-    ensures { Writes (type_out text.now nodes.now (room node_width nodes.now) depth) at result out.old out.new }
+fn write_type(w: &mut Writer, depth: u32)
+    ensures { Writes (λ x. type_out x.text x.nodes x.count depth) w.old w.new }
 {
     if depth == 0 {
-        return cursor::put_token(text, nodes, out, at);
+        return w.put_token();
     }
-    let kind = cursor::kind_at(nodes, at.node);
-    if kind == ast::kind::LIST {
-        return write_container(text, nodes, out, at, b"list<", depth - 1);
+    let Some(kind) = w.kind() else {
+        return w.put_token();
+    };
+    match kind {
+        Kind::List => write_container(w, b"list<", depth - 1),
+        Kind::Set => write_container(w, b"set<", depth - 1),
+        Kind::Map => write_map_type(w, depth - 1),
+        _ => w.put_token(),
     }
-    if kind == ast::kind::SET {
-        return write_container(text, nodes, out, at, b"set<", depth - 1);
-    }
-    if kind == ast::kind::MAP {
-        return write_map_type(text, nodes, out, at, depth - 1);
-    }
-    cursor::put_token(text, nodes, out, at)
 }
 
 // `, ` before each but the first
-fn put_comma(out: &mut [u8], at: Cursor, first: bool) -> Cursor
-    ensures { Writes (comma_out first) at result out.old out.new }
+fn put_comma(w: &mut Writer, first: bool)
+    ensures { Writes (λ x. comma_out first) w.old w.new }
 {
-    if first {
-        return at;
+    if !first {
+        w.put(b", ");
     }
-    cursor::put(out, at, b", ")
+}
+
+// the children of a node, each written so
+fn write_each<F: Fn(&mut Writer)>(w: &mut Writer, owner: u32, write: F)
+    requires { F.IsAlwaysCallable write }
+    ensures { (m : Source → W) → ((s : _) (t : _) → F.post write s tt t → Writes m s.now t.now) → Writes (λ x. each_out x.nodes x.count owner (m x) true x.count) w.old w.new }
+{
+    let mut first = true;
+    for _ in 0..w.nodes.len() / NODE_WIDTH {
+        if w.parent() != owner {
+            return;
+        }
+        put_comma(w, first);
+        write(w);
+        first = false;
+    }
+}
+
+// a bracket, the children of the node ahead, a bracket
+fn write_brackets<F: Fn(&mut Writer)>(w: &mut Writer, opener: &[u8], closer: &[u8], write: F)
+    requires { F.IsAlwaysCallable write }
+    ensures { (m : Source → W) → ((s : _) (t : _) → F.post write s tt t → Writes m s.now t.now) → Writes (λ x p. (pass_node ⨟ (put_out opener.now ⨟ (each_out x.nodes x.count p.node (m x) true x.count ⨟ put_out closer.now))) p) w.old w.new }
+{
+    let owner = w.at.node;
+    w.pass_node();
+    w.put(opener);
+    write_each(w, owner, write);
+    w.put(closer);
 }
 
 // write_field_value, with `depth` containers left
 #[cycle(values)]
-pub fn write_value(text: &[u8], nodes: &[u32], out: &mut [u8], at: Cursor, depth: u32) -> Cursor
-    ensures { Writes (value_out text.now nodes.now (room node_width nodes.now) depth) at result out.old out.new }
+pub fn write_value(w: &mut Writer, depth: u32)
+    ensures { Writes (λ x. value_out x.text x.nodes x.count depth) w.old w.new }
 {
     if depth == 0 {
-        return cursor::put_token(text, nodes, out, at);
+        return w.put_token();
     }
-    let kind = cursor::kind_at(nodes, at.node);
-    if kind == ast::kind::LIST_VALUE {
-        return write_list(text, nodes, out, at, depth - 1);
+    let Some(kind) = w.kind() else {
+        return w.put_token();
+    };
+    match kind {
+        Kind::ListValue => write_list(w, depth - 1),
+        Kind::MapValue => write_map(w, depth - 1),
+        _ => w.put_token(),
     }
-    if kind == ast::kind::MAP_VALUE {
-        return write_map(text, nodes, out, at, depth - 1);
-    }
-    cursor::put_token(text, nodes, out, at)
 }
 
 // [, the elements, ]
 #[cycle(values)]
-fn write_list(text: &[u8], nodes: &[u32], out: &mut [u8], at: Cursor, depth: u32) -> Cursor
-    ensures { Writes (brackets_out nodes.now (room node_width nodes.now) "[" "]" (value_out text.now nodes.now (room node_width nodes.now) depth)) at result out.old out.new }
+fn write_list(w: &mut Writer, depth: u32)
+    ensures { Writes (λ x. brackets_out x.nodes x.count "[" "]" (value_out x.text x.nodes x.count depth)) w.old w.new }
 {
-    let opened = cursor::put(out, cursor::pass_node(at), b"[");
-    let inner = write_elements(text, nodes, out, opened, at.node, depth);
-    cursor::put(out, inner, b"]")
+    write_brackets(
+        w,
+        b"[",
+        b"]",
+        |w: &mut Writer|
+            ensures { Writes (λ x. value_out x.text x.nodes x.count depth) w.entry.now w.exit.now }
+        { write_element(w, depth) },
+    );
 }
 
 // an element or a default; most are one token
 #[cycle(values)]
-fn write_element(text: &[u8], nodes: &[u32], out: &mut [u8], at: Cursor, depth: u32) -> Cursor
-    ensures { Writes (value_out text.now nodes.now (room node_width nodes.now) depth) at result out.old out.new }
+fn write_element(w: &mut Writer, depth: u32)
+    ensures { Writes (λ x. value_out x.text x.nodes x.count depth) w.old w.new }
 {
-    if cursor::kind_at(nodes, at.node) < ast::kind::LIST_VALUE {
-        return cursor::put_token(text, nodes, out, at);
+    if w.is(Kind::ListValue) || w.is(Kind::MapValue) {
+        return write_value(w, depth);
     }
-    write_value(text, nodes, out, at, depth)
-}
-
-#[cycle(values)]
-fn write_elements(
-    text: &[u8],
-    nodes: &[u32],
-    out: &mut [u8],
-    at: Cursor,
-    owner: u32,
-    depth: u32,
-) -> Cursor
-    ensures { Writes (each_out nodes.now (room node_width nodes.now) owner (value_out text.now nodes.now (room node_width nodes.now) depth) true (room node_width nodes.now)) at result out.old out.new }
-{
-    let mut now = at;
-    let mut first = true;
-    let mut left = nodes.len() / NODE_WIDTH;
-    while 0 < left {
-        if cursor::parent_at(nodes, now.node) != owner {
-            return now;
-        }
-        let parted = put_comma(out, now, first);
-        now = write_element(text, nodes, out, parted, depth);
-        first = false;
-        left -= 1;
-    }
-    now
+    w.put_token();
 }
 
 // {, the properties, }
 #[cycle(values)]
-fn write_map(text: &[u8], nodes: &[u32], out: &mut [u8], at: Cursor, depth: u32) -> Cursor
-    ensures { Writes (brackets_out nodes.now (room node_width nodes.now) "{" "}" (property_out (value_out text.now nodes.now (room node_width nodes.now) depth))) at result out.old out.new }
+fn write_map(w: &mut Writer, depth: u32)
+    ensures { Writes (λ x. brackets_out x.nodes x.count "{" "}" (property_out (value_out x.text x.nodes x.count depth))) w.old w.new }
 {
-    let opened = cursor::put(out, cursor::pass_node(at), b"{");
-    let inner = write_properties(text, nodes, out, opened, at.node, depth);
-    cursor::put(out, inner, b"}")
+    write_brackets(
+        w,
+        b"{",
+        b"}",
+        |w: &mut Writer|
+            ensures { Writes (λ x. property_out (value_out x.text x.nodes x.count depth)) w.entry.now w.exit.now }
+        { write_property(w, depth) },
+    );
 }
 
 #[cycle(values)]
-fn write_properties(
-    text: &[u8],
-    nodes: &[u32],
-    out: &mut [u8],
-    at: Cursor,
-    owner: u32,
-    depth: u32,
-) -> Cursor
-    ensures { Writes (each_out nodes.now (room node_width nodes.now) owner (property_out (value_out text.now nodes.now (room node_width nodes.now) depth)) true (room node_width nodes.now)) at result out.old out.new }
+fn write_property(w: &mut Writer, depth: u32)
+    ensures { Writes (λ x. property_out (value_out x.text x.nodes x.count depth)) w.old w.new }
 {
-    let mut now = at;
-    let mut first = true;
-    let mut left = nodes.len() / NODE_WIDTH;
-    while 0 < left {
-        if cursor::parent_at(nodes, now.node) != owner {
-            return now;
-        }
-        let parted = put_comma(out, now, first);
-        now = write_property(text, nodes, out, parted, depth);
-        first = false;
-        left -= 1;
-    }
-    now
-}
-
-#[cycle(values)]
-fn write_property(text: &[u8], nodes: &[u32], out: &mut [u8], at: Cursor, depth: u32) -> Cursor
-    ensures { Writes (property_out (value_out text.now nodes.now (room node_width nodes.now) depth)) at result out.old out.new }
-{
-    let key = write_value(text, nodes, out, cursor::pass_node(at), depth);
-    let colon = cursor::put(out, key, b": ");
-    write_value(text, nodes, out, colon, depth)
+    w.pass_node();
+    write_value(w, depth);
+    w.put(b": ");
+    write_value(w, depth);
 }
 
 // name, ` = `, value
-fn write_annotation(text: &[u8], nodes: &[u32], out: &mut [u8], at: Cursor) -> Cursor
-    ensures { Writes (annotation_out text.now nodes.now) at result out.old out.new }
+fn write_annotation(w: &mut Writer)
+    ensures { Writes (λ x. annotation_out x.text x.nodes) w.old w.new }
 {
-    let named = cursor::put_token(text, nodes, out, cursor::pass_node(at));
-    let equals = cursor::put(out, named, b" = ");
-    cursor::put_token(text, nodes, out, equals)
+    w.pass_node();
+    w.put_token();
+    w.put(b" = ");
+    w.put_token();
 }
 
-fn write_annotation_list(
-    text: &[u8],
-    nodes: &[u32],
-    out: &mut [u8],
-    at: Cursor,
-    owner: u32,
-) -> Cursor
-    ensures { Writes (each_out nodes.now (room node_width nodes.now) owner (annotation_out text.now nodes.now) true (room node_width nodes.now)) at result out.old out.new }
+// the annotations that are the next node
+fn write_annotation_block(w: &mut Writer)
+    ensures { Writes (λ x. brackets_out x.nodes x.count " (" ")" (annotation_out x.text x.nodes)) w.old w.new }
 {
-    let mut now = at;
-    let mut first = true;
-    let mut left = nodes.len() / NODE_WIDTH;
-    while 0 < left {
-        if cursor::parent_at(nodes, now.node) != owner {
-            return now;
-        }
-        let parted = put_comma(out, now, first);
-        now = write_annotation(text, nodes, out, parted);
-        first = false;
-        left -= 1;
-    }
-    now
+    write_brackets(w, b" (", b")", write_annotation);
 }
 
 // write_annotations, if the next node is the owner's
-pub fn write_annotations(
-    text: &[u8],
-    nodes: &[u32],
-    out: &mut [u8],
-    at: Cursor,
-    owner: u32,
-) -> Cursor
-    ensures { Writes (annotations_out text.now nodes.now (room node_width nodes.now) owner) at result out.old out.new }
+pub fn write_annotations(w: &mut Writer, owner: u32)
+    ensures { Writes (λ x. annotations_out x.text x.nodes x.count owner) w.old w.new }
 {
-    if cursor::parent_at(nodes, at.node) != owner {
-        return at;
+    if w.parent() == owner && w.is(Kind::Annotations) {
+        write_annotation_block(w);
     }
-    if cursor::kind_at(nodes, at.node) != ast::kind::ANNOTATIONS {
-        return at;
-    }
-    let opened = cursor::put(out, cursor::pass_node(at), b" (");
-    let inner = write_annotation_list(text, nodes, out, opened, at.node);
-    cursor::put(out, inner, b")")
 }
 
 // an id and `: `, if the next node is one
-fn write_id(text: &[u8], nodes: &[u32], out: &mut [u8], at: Cursor) -> Cursor
-    ensures { Writes (id_out text.now nodes.now (room node_width nodes.now)) at result out.old out.new }
+fn write_id(w: &mut Writer)
+    ensures { Writes (λ x. id_out x.text x.nodes x.count) w.old w.new }
 {
-    if cursor::kind_at(nodes, at.node) != ast::kind::FIELD_ID {
-        return at;
+    if w.is(Kind::FieldId) {
+        w.put_token();
+        w.put(b": ");
     }
-    let id = cursor::put_token(text, nodes, out, at);
-    cursor::put(out, id, b": ")
 }
 
-fn write_required(out: &mut [u8], at: Cursor, flags: u32) -> Cursor
-    ensures { Writes (required_out flags) at result out.old out.new }
+// flags stay numbers: they add up in one of the lent table's
+fn write_required(w: &mut Writer, flags: u32)
+    ensures { Writes (λ x. required_out flags) w.old w.new }
 {
-    if flags == flag::REQUIRED {
-        return cursor::put(out, at, b"required ");
+    match flags {
+        flag::REQUIRED => w.put(b"required "),
+        flag::OPTIONAL => w.put(b"optional "),
+        _ => {}
     }
-    if flags == flag::OPTIONAL {
-        return cursor::put(out, at, b"optional ");
-    }
-    at
 }
 
 // whether the owner's next node is a value
-fn has_value(nodes: &[u32], at: Cursor, owner: u32) -> bool
-    ensures { result ≡ has_value nodes.now (room node_width nodes.now) owner at.node }
+fn has_value(w: &Writer, owner: u32) -> bool
+    ensures { result ≡ has_value w.now.nodes.now (room node_width w.now.nodes.now) owner w.now.at.node }
 {
-    if cursor::parent_at(nodes, at.node) != owner {
-        return false;
-    }
-    cursor::kind_at(nodes, at.node) != ast::kind::ANNOTATIONS
+    w.parent() == owner && !w.is(Kind::Annotations)
 }
 
 // ` = ` and a value, if the owner has one
-fn write_default(text: &[u8], nodes: &[u32], out: &mut [u8], at: Cursor, owner: u32) -> Cursor
-    ensures { Writes (assigned_out nodes.now (room node_width nodes.now) owner (value_out text.now nodes.now (room node_width nodes.now) nesting)) at result out.old out.new }
+fn write_default(w: &mut Writer, owner: u32)
+    ensures { Writes (λ x. assigned_out x.nodes x.count owner (value_out x.text x.nodes x.count nesting)) w.old w.new }
 {
-    if !has_value(nodes, at, owner) {
-        return at;
+    if has_value(w, owner) {
+        w.put(b" = ");
+        write_element(w, NESTING);
     }
-    let equals = cursor::put(out, at, b" = ");
-    write_element(text, nodes, out, equals, NESTING)
 }
 
 // the same of an enum member, whose value is one token
-pub fn write_initializer(
-    text: &[u8],
-    nodes: &[u32],
-    out: &mut [u8],
-    at: Cursor,
-    owner: u32,
-) -> Cursor
-    ensures { Writes (assigned_out nodes.now (room node_width nodes.now) owner (token_out text.now nodes.now)) at result out.old out.new }
+pub fn write_initializer(w: &mut Writer, owner: u32)
+    ensures { Writes (λ x. assigned_out x.nodes x.count owner (token_out x.text x.nodes)) w.old w.new }
 {
-    if !has_value(nodes, at, owner) {
-        return at;
+    if has_value(w, owner) {
+        w.put(b" = ");
+        w.put_token();
     }
-    let equals = cursor::put(out, at, b" = ");
-    cursor::put_token(text, nodes, out, equals)
 }
 
 // a type that stands in no container; most are one token
-fn write_outer_type(text: &[u8], nodes: &[u32], out: &mut [u8], at: Cursor) -> Cursor
-    ensures { Writes (type_out text.now nodes.now (room node_width nodes.now) nesting) at result out.old out.new }
+fn write_outer_type(w: &mut Writer)
+    ensures { Writes (λ x. type_out x.text x.nodes x.count nesting) w.old w.new }
 {
-    if cursor::kind_at(nodes, at.node) < ast::kind::LIST {
-        return cursor::put_token(text, nodes, out, at);
+    if w.is(Kind::List) || w.is(Kind::Set) || w.is(Kind::Map) {
+        return write_type(w, NESTING);
     }
-    write_type(text, nodes, out, at, NESTING)
+    w.put_token();
 }
 
 // a type, a space, a name
-pub fn write_typed_name(text: &[u8], nodes: &[u32], out: &mut [u8], at: Cursor) -> Cursor
-    ensures { Writes (typed_name_out text.now nodes.now (room node_width nodes.now)) at result out.old out.new }
+pub fn write_typed_name(w: &mut Writer)
+    ensures { Writes (λ x. typed_name_out x.text x.nodes x.count) w.old w.new }
 {
-    let typed = write_outer_type(text, nodes, out, at);
-    let parted = cursor::put(out, typed, b" ");
-    cursor::put_token(text, nodes, out, parted)
+    write_outer_type(w);
+    w.put(b" ");
+    w.put_token();
 }
 
 // id, requiredness, type, name, default
-fn write_field_head(
-    text: &[u8],
-    nodes: &[u32],
-    out: &mut [u8],
-    at: Cursor,
-    owner: u32,
-    flags: u32,
-) -> Cursor
-    ensures { Writes (field_head_out text.now nodes.now (room node_width nodes.now) owner flags) at result out.old out.new }
+fn write_field_head(w: &mut Writer, owner: u32, flags: u32)
+    ensures { Writes (λ x. field_head_out x.text x.nodes x.count owner flags) w.old w.new }
 {
-    let id = write_id(text, nodes, out, at);
-    let required = write_required(out, id, flags);
-    let named = write_typed_name(text, nodes, out, required);
-    write_default(text, nodes, out, named, owner)
+    write_id(w);
+    write_required(w, flags);
+    write_typed_name(w);
+    write_default(w, owner);
 }
 
 // write_field
-pub fn write_field(
-    text: &[u8],
-    nodes: &[u32],
-    comments: &[u32],
-    out: &mut [u8],
-    at: Cursor,
-    indent: u32,
-) -> Cursor
-    ensures { Writes (field_out text.now nodes.now (room node_width nodes.now) comments.now (room comment_width comments.now) indent) at result out.old out.new }
+pub fn write_field(w: &mut Writer)
+    ensures { Writes (λ x. field_out x.text x.nodes x.count x.comments x.total x.indent) w.old w.new }
 {
-    let noted = cursor::put_comments(text, comments, out, at, indent);
-    let spaced = cursor::put_spaces(out, noted, indent);
-    let flags = cursor::number_at(nodes, at.node, column::FLAGS);
-    let head = write_field_head(text, nodes, out, cursor::pass_node(spaced), at.node, flags);
-    if cursor::parent_at(nodes, head.node) != at.node {
-        return cursor::put(out, head, b",\n"); // no annotations
+    let owner = w.at.node;
+    let flags = w.number(column::FLAGS);
+    w.start_line();
+    write_field_head(w, owner, flags);
+    if w.parent() != owner {
+        return w.put(b",\n"); // no annotations
     }
-    let annotated = write_annotations(text, nodes, out, head, at.node);
-    cursor::put(out, annotated, b",\n")
+    write_annotations(w, owner);
+    w.put(b",\n");
 }
 
 // write_param: no comments, no requiredness, no annotations
-fn write_param(text: &[u8], nodes: &[u32], comments: &[u32], out: &mut [u8], at: Cursor) -> Cursor
-    ensures { Writes (param_out text.now nodes.now (room node_width nodes.now) comments.now (room comment_width comments.now)) at result out.old out.new }
+fn write_param(w: &mut Writer)
+    ensures { Writes (λ x. param_out x.text x.nodes x.count x.comments x.total) w.old w.new }
 {
-    let noted = cursor::pass_comments(comments, at);
-    let head = write_field_head(text, nodes, out, cursor::pass_node(noted), at.node, 0);
-    cursor::pass_below(nodes, head, at.node)
+    let owner = w.at.node;
+    w.pass_comments();
+    w.pass_node();
+    write_field_head(w, owner, 0);
+    w.pass_below(owner);
 }
 
 // whether a field with these flags is thrown, or is not
 fn is_of(thrown: bool, flags: u32) -> bool
     ensures { result ≡ is_of thrown flags }
 {
-    if flags < flag::THROWN {
-        return !thrown;
-    }
-    thrown
+    thrown == (flag::THROWN <= flags)
 }
 
 // the parameters of a function, or its thrown fields
-pub fn write_params(
-    text: &[u8],
-    nodes: &[u32],
-    comments: &[u32],
-    out: &mut [u8],
-    at: Cursor,
-    thrown: bool,
-) -> Cursor
-    ensures { Writes (params_out text.now nodes.now (room node_width nodes.now) comments.now (room comment_width comments.now) thrown) at result out.old out.new }
+pub fn write_params(w: &mut Writer, thrown: bool)
+    ensures { Writes (λ x. params_out x.text x.nodes x.count x.comments x.total thrown) w.old w.new }
 {
-    let mut now = at;
     let mut first = true;
-    let mut left = nodes.len() / NODE_WIDTH;
-    while 0 < left {
-        if cursor::kind_at(nodes, now.node) != ast::kind::FIELD {
-            return now;
+    for _ in 0..w.nodes.len() / NODE_WIDTH {
+        if !w.is(Kind::Field) || !is_of(thrown, w.number(column::FLAGS)) {
+            return;
         }
-        if !is_of(thrown, cursor::number_at(nodes, now.node, column::FLAGS)) {
-            return now;
-        }
-        let parted = put_comma(out, now, first);
-        now = write_param(text, nodes, comments, out, parted);
+        put_comma(w, first);
+        write_param(w);
         first = false;
-        left -= 1;
     }
-    now
 }

@@ -5,7 +5,7 @@
 use mathlib.Core.Path.{◌≡◌, refl, sym}
 use mathlib.Core.Bool.{Bool, true, false, cond, not, ◌||◌, false≢true}
 use mathlib.Core.List.{List, [], ◌∷◌}
-use mathlib.Core.Option.{Option, some, none}
+use Rattle.std.specs.Prelude.{Option, Some, None}
 use Prim.Native.Nat.{ℕ, suc, zero, ◌<◌}
 use Prim.Native.String.{String}
 use native.Mathlib.Omega.{arith}
@@ -20,8 +20,7 @@ use Rattle.token.specs.Automaton.{rules_at}
 use Rattle.token.specs.Breaks.{goes_on, breaks, Stops, Bytes}
 use Rattle.token.specs.declared.Token.{Token}
 use Rattle.token.specs.declared.Token.TheVariants as T
-use Rattle.token.specs.declared.Scan.{Scan}
-use Rattle.token.specs.declared.Scan.TheVariants.{Hit}
+use Rattle.token.specs.Scanned.{Scan}
 use Rattle.token.proofs.Every.{both, both_left, both_right}
 use Rattle.lexer.specs.Tokens.{Lexeme, lexeme, skipped}
 use Rattle.utf8.proofs.Utf8Laws.{well_ascii, Ascii}
@@ -216,7 +215,7 @@ unfoldable on : String → Scan
 unfolding rules_at words rules first keep scan_from scan
 on s = scan (ascii s)
 
-fixed_good : (k : Token) (u : List ℕ) → T (low u) → scan u ≡ Hit k (length u) → skipped k ≡ false → Good k u
+fixed_good : (k : Token) (u : List ℕ) → T (low u) → scan u ≡ Some (k, length u) → skipped k ≡ false → Good k u
 fixed_good k u h e s = record { bytes = low_bytes u h; scanned = e; solid = s; formed = well_ascii u (low_ascii u h) }
 
 pub namespace_good : Good T.Namespace (ascii "namespace")
@@ -404,8 +403,8 @@ default_apart (wsome h) r b g = spaced (smark equals (spaced (value_apart h r b 
 
 default_break : (v : Option FieldInitialValue) (r : List Piece) → Break r → Break (write_default v r)
 unfolding write_default bytes_of
-default_break none r b = b
-default_break (some v) r b = refl
+default_break None r b = b
+default_break (Some v) r b = refl
 
 required_apart : (q : Required) (r : List Piece) → Sep r → Sep (write_required q r)
 unfolding write_required keyword bytes_of is code
@@ -451,8 +450,8 @@ initializer_apart (wjust h) r b g = spaced (smark equals (spaced (own_apart h re
 
 initializer_break : (v : Option Lexeme) (r : List Piece) → Break r → Break (write_initializer v r)
 unfolding write_initializer bytes_of
-initializer_break none r b = b
-initializer_break (some t) r b = refl
+initializer_break None r b = b
+initializer_break (Some t) r b = refl
 
 extends_apart : {x : Option Lexeme} → WfOption Good (T.Identifier ∷ []) x → (r : List Piece) → Break r → Sep r → Sep (write_extends x r)
 unfolding write_extends keyword bytes_of is code
@@ -461,8 +460,8 @@ extends_apart (wjust h) r b g = spaced (word_apart extends_good refl refl (space
 
 extends_break : (x : Option Lexeme) (r : List Piece) → Break r → Break (write_extends x r)
 unfolding write_extends bytes_of
-extends_break none r b = b
-extends_break (some t) r b = refl
+extends_break None r b = b
+extends_break (Some t) r b = refl
 
 module _ {A : Type 0} (write : A → List Piece → List Piece) (W : A → Type 0) (each : (x : A) → W x → (r : List Piece) → Sep r → Sep (write x r)) where
   body_apart : {xs : List A} {a : Annotations} → All W xs → WfAnnotations Good a → (r : List Piece) → Sep r → Sep (write_body write xs a r)

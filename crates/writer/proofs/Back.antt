@@ -1,7 +1,7 @@
 -- The printed tokens read back as what was printed, places forgotten, and without what write_param drops.
 use mathlib.Core.Path.{◌≡◌, refl, ap, sym, ◌∙◌}
 use mathlib.Core.Bool.{Bool, true, false, cond, or-false}
-use mathlib.Core.Option.{Option, none}
+use Rattle.std.specs.Prelude.{Option, None}
 use mathlib.Core.List.{List, [], ◌∷◌, ◌++◌, append_assoc, append-nil}
 use Prim.Native.Nat.{ℕ, suc, zero, ◌<◌}
 use native.Mathlib.Omega.{arith}
@@ -964,7 +964,7 @@ module _ (Good : Token → List ℕ → Type 0) where
   -- ---- functions
 
   -- what is read was there
-  needs_ok : {A : Type 0} (e k : ℕ) (p : P A) (s u : St) (a : A) → ((l : LOC) (c : List Lexeme) → p (pos l c []) ≡ no (raise k none) l) → p s ≡ ok a u
+  needs_ok : {A : Type 0} (e k : ℕ) (p : P A) (s u : St) (a : A) → ((l : LOC) (c : List Lexeme) → p (pos l c []) ≡ no (raise k None) l) → p s ≡ ok a u
       → needs e p s ≡ ok a u
   needs_ok e k p (pos l c []) u a z h = let y = z l c in let o : ◌≡◌ {A = ℕ} 0 1 = cc in absurd (omega arith)
   needs_ok e k p (pos l c (t ∷ ts)) u a z h = h

@@ -6,7 +6,7 @@
 use mathlib.Core.Path.{◌≡◌, refl, ap, ◌∙◌}
 use mathlib.Core.Bool.{Bool, true, false, cond, not}
 use mathlib.Core.List.{List, [], ◌∷◌, ◌++◌, append-nil}
-use mathlib.Core.Option.{none}
+use Rattle.std.specs.Prelude.{Some, None}
 use Prim.Native.Nat.{ℕ, suc, ◌+◌, ◌<◌, ◌≤◌}
 use native.Mathlib.Omega.{arith}
 use native.Mathlib.Nat.{add-zero}
@@ -25,8 +25,7 @@ use Rattle.token.specs.Automaton.{start, dead, blanks, rules_at, openings, step,
 use Rattle.token.specs.Breaks.{goes_on, breaks, Stops, Bytes}
 use Rattle.token.specs.declared.Token.{Token}
 use Rattle.token.specs.declared.Token.TheVariants as T
-use Rattle.token.specs.declared.Scan.{Scan}
-use Rattle.token.specs.declared.Scan.TheVariants.{Miss, Hit}
+use Rattle.token.specs.Scanned.{Scan}
 use Rattle.token.proofs.Reach.{dead_scan, scan_step}
 use Rattle.token.proofs.Words.{scan_words}
 use Rattle.token.proofs.Stable.{stable, fixed}
@@ -59,7 +58,7 @@ free (cut k w r cs) s u = go (skipped k) (between s (pass w k r s)) (between u (
     go true p q e = e
     go false p q e = ap (λ (l : List Lexeme). lexeme k w nowhere ∷ l) e
 
-shift : (cs : Cuts) (a b : ℕ) → unrecognized cs a ≡ none → unrecognized cs b ≡ none
+shift : (cs : Cuts) (a b : ℕ) → unrecognized cs a ≡ None → unrecognized cs b ≡ None
 unfolding unrecognized
 shift end a b e = refl
 shift stuck a b e = cc
@@ -69,7 +68,7 @@ shift (cut k w r cs) a b e = shift cs (a + length w) (b + length w) e
 
 pub record Gives (cs : Cuts) (ts : List Lexeme) : Type 0 where
   pub reads : (s : Lexer) → bares (lexemes cs s) ≡ ts
-  pub passes : (a : ℕ) → unrecognized cs a ≡ none
+  pub passes : (a : ℕ) → unrecognized cs a ≡ None
 
 gives_end : Gives end []
 unfolding lexemes moves unrecognized
@@ -101,28 +100,28 @@ run : List ℕ → ℕ
 run [] = 0
 run (c ∷ t) = cond (eqb (class_of c) 59) (suc (run t)) 0
 
-blanks_step : (b : Bool) (t : List ℕ) (i : ℕ) → scan_from (rules_at blanks) (suc i) (Hit T.Blank (suc i)) t ≡ Hit T.Blank (suc i + run t)
-    → scan_from (rules_at (cond b blanks dead)) (suc i) (keep (kind_at (cond b blanks dead)) (suc i) (Hit T.Blank i)) t ≡ Hit T.Blank (i + cond b (suc (run t)) 0)
+blanks_step : (b : Bool) (t : List ℕ) (i : ℕ) → scan_from (rules_at blanks) (suc i) (Some (T.Blank, suc i)) t ≡ Some (T.Blank, suc i + run t)
+    → scan_from (rules_at (cond b blanks dead)) (suc i) (keep (kind_at (cond b blanks dead)) (suc i) (Some (T.Blank, i))) t ≡ Some (T.Blank, i + cond b (suc (run t)) 0)
 unfolding keep kind_at rules_at
-blanks_step true t i e = e ∙ ap (Hit T.Blank) (omega arith)
-blanks_step false t i e = dead_scan (suc i) (Hit T.Blank i) t ∙ ap (Hit T.Blank) (omega arith)
+blanks_step true t i e = e ∙ ap (λ n. Some (T.Blank, n)) (omega arith)
+blanks_step false t i e = dead_scan (suc i) (Some (T.Blank, i)) t ∙ ap (λ n. Some (T.Blank, n)) (omega arith)
 
-run_scan : (t : List ℕ) (i : ℕ) → Bytes t → scan_from (rules_at blanks) i (Hit T.Blank i) t ≡ Hit T.Blank (i + run t)
+run_scan : (t : List ℕ) (i : ℕ) → Bytes t → scan_from (rules_at blanks) i (Some (T.Blank, i)) t ≡ Some (T.Blank, i + run t)
 unfolding run scan_from step
 run_scan [] i h = rw add-zero
-run_scan (c ∷ t) i h = scan_step blanks i (Hit T.Blank i) c t h.0 ∙ blanks_step (eqb (class_of c) 59) t i (run_scan t (suc i) h.1)
+run_scan (c ∷ t) i h = scan_step blanks i (Some (T.Blank, i)) c t h.0 ∙ blanks_step (eqb (class_of c) 59) t i (run_scan t (suc i) h.1)
 
 opens : (c : ℕ) → class_of c ≡ 59 → step start (class_of c) ≡ blanks
 unfolding step openings
 opens c e = rw e
 
-blank_longest : (c : ℕ) (t : List ℕ) → class_of c ≡ 59 → Bytes (c ∷ t) → longest (c ∷ t) ≡ Hit T.Blank (1 + run t)
+blank_longest : (c : ℕ) (t : List ℕ) → class_of c ≡ 59 → Bytes (c ∷ t) → longest (c ∷ t) ≡ Some (T.Blank, 1 + run t)
 unfolding longest rules_at keep kind_at
-blank_longest c t e h = scan_step start 0 Miss c t h.0 ∙ rw (opens c e) (run_scan t 1 h.1)
+blank_longest c t e h = scan_step start 0 None c t h.0 ∙ rw (opens c e) (run_scan t 1 h.1)
 
-blank_scan : (c : ℕ) (t : List ℕ) → class_of c ≡ 59 → Bytes (c ∷ t) → scan (c ∷ t) ≡ Hit T.Blank (suc (run t))
+blank_scan : (c : ℕ) (t : List ℕ) → class_of c ≡ 59 → Bytes (c ∷ t) → scan (c ∷ t) ≡ Some (T.Blank, suc (run t))
 unfolding rename is code
-blank_scan c t e h = scan_words (c ∷ t) ∙ rw (blank_longest c t e h) (ap (Hit T.Blank) (omega arith))
+blank_scan c t e h = scan_words (c ∷ t) ∙ rw (blank_longest c t e h) (ap (λ n. Some (T.Blank, n)) (omega arith))
 
 blank_skipped : skipped T.Blank ≡ true
 unfolding skipped is code
@@ -147,7 +146,7 @@ blank_gives c t ts e h g =
 
 -- ---- tokens
 
-token_gives : (k : Token) (w r : List ℕ) (ts : List Lexeme) → skipped k ≡ false → scan (w ++ r) ≡ Hit k (length w) → Gives (cuts r) ts
+token_gives : (k : Token) (w r : List ℕ) (ts : List Lexeme) → skipped k ≡ false → scan (w ++ r) ≡ Some (k, length w) → Gives (cuts r) ts
     → Gives (cuts (w ++ r)) (lexeme k w nowhere ∷ ts)
 token_gives k w r ts s e g = rw (cuts_hit (w ++ r) k (length w) e, take-append_seam w r, drop-append_seam w r) (gives_token k w r (cuts r) ts s g)
 
@@ -178,7 +177,7 @@ unfoldable one : ℕ → Scan
 unfolding rules_at words rules first keep scan_from scan
 one b = scan (b ∷ [])
 
-line_scan : (r : List ℕ) → Bytes r → scan (10 ∷ r) ≡ Hit T.Newline 1
+line_scan : (r : List ℕ) → Bytes r → scan (10 ∷ r) ≡ Some (T.Newline, 1)
 unfolding one goes_on among is code
 line_scan r h = fixed (10 ∷ []) r T.Newline tt refl (any_ends T.Newline r refl refl refl h)
 
@@ -197,7 +196,7 @@ gap_gives (bline {b = b} k) r ts h g = line_gives (b ++ r) ts h.1 (gap_gives k r
 
 -- what a mark's kind and byte are
 pub record Plain (k : Token) (b : ℕ) : Type 0 where
-  pub itself : scan (b ∷ []) ≡ Hit k 1
+  pub itself : scan (b ∷ []) ≡ Some (k, 1)
   pub names : goes_on k ≡ false
   pub blank : is k T.Blank ≡ false
   pub comment : is k T.LineComment ≡ false
@@ -277,7 +276,7 @@ pub lexes : (ps : List Piece) → Sep ps → bares (tokens (bytes_of ps) opening
 unfolding tokens opening
 lexes ps h = lexes_from ps h opening
 
-pub cut_through : {ps : List Piece} → Sep ps → (a : ℕ) → unrecognized (cuts (bytes_of ps)) a ≡ none
+pub cut_through : {ps : List Piece} → Sep ps → (a : ℕ) → unrecognized (cuts (bytes_of ps)) a ≡ None
 cut_through h a = (gives h).passes a
 
 pub fine_print : {ps : List Piece} → Sep ps → length (bytes_of ps) ≤ 65536 → checked (bytes_of ps) ≡ accepted []

@@ -4,7 +4,7 @@
 --     print_drop     so is one without the comments, requiredness and annotations of parameters and thrown fields
 use mathlib.Core.Path.{◌≡◌, refl, ap}
 use mathlib.Core.List.{List, [], ◌∷◌}
-use mathlib.Core.Option.{Option, some, none}
+use Rattle.std.specs.Prelude.{Option, Some, None}
 use Prim.Native.Nat.{ℕ}
 use Rattle.token.specs.declared.Token.TheVariants as T
 use Rattle.lexer.specs.declared.location.Span.{Span}
@@ -161,23 +161,23 @@ module _ (h : Span → Span) where
 
   id_move : (i : Option Lexeme) (r : List Piece) → write_id (opt (move_l h) i) r ≡ write_id i r
   unfolding write_id opt
-  id_move none r = refl
-  id_move (some t) r = simp own_move
+  id_move None r = refl
+  id_move (Some t) r = simp own_move
 
   default_move : (v : Option FieldInitialValue) (r : List Piece) → write_default (opt (move_value h) v) r ≡ write_default v r
   unfolding write_default opt
-  default_move none r = refl
-  default_move (some v) r = simp (value_move v)
+  default_move None r = refl
+  default_move (Some v) r = simp (value_move v)
 
   initializer_move : (i : Option Lexeme) (r : List Piece) → write_initializer (opt (move_l h) i) r ≡ write_initializer i r
   unfolding write_initializer opt
-  initializer_move none r = refl
-  initializer_move (some t) r = simp own_move
+  initializer_move None r = refl
+  initializer_move (Some t) r = simp own_move
 
   extends_move : (i : Option Lexeme) (r : List Piece) → write_extends (opt (move_l h) i) r ≡ write_extends i r
   unfolding write_extends opt
-  extends_move none r = refl
-  extends_move (some t) r = simp own_move
+  extends_move None r = refl
+  extends_move (Some t) r = simp own_move
 
   field_move : (ind : List ℕ) (f : Field) (r : List Piece) → write_field ind (move_field h f) r ≡ write_field ind f r
   unfolding write_field move_field
@@ -193,8 +193,8 @@ module _ (h : Span → Span) where
 
   throws_move : (th : Option (List Field)) (r : List Piece) → write_throws (opt (maps (move_field h)) th) r ≡ write_throws th r
   unfolding write_throws opt
-  throws_move none r = refl
-  throws_move (some fs) r = simp (each_alike commas write_param (move_field h) (commas_alike (move_field h)) param_move fs)
+  throws_move None r = refl
+  throws_move (Some fs) r = simp (each_alike commas write_param (move_field h) (commas_alike (move_field h)) param_move fs)
 
   function_move : (ind : List ℕ) (f : Function) (r : List Piece) → write_function ind (move_function h f) r ≡ write_function ind f r
   unfolding write_function move_function
@@ -233,8 +233,8 @@ param_drop (field l c i q t n v a) r = refl
 
 throws_drop : (th : Option (List Field)) (r : List Piece) → write_throws (opt (maps drop_field) th) r ≡ write_throws th r
 unfolding write_throws opt
-throws_drop none r = refl
-throws_drop (some fs) r = simp (each_alike commas write_param drop_field (commas_alike drop_field) param_drop fs)
+throws_drop None r = refl
+throws_drop (Some fs) r = simp (each_alike commas write_param drop_field (commas_alike drop_field) param_drop fs)
 
 function_drop : (ind : List ℕ) (f : Function) (r : List Piece) → write_function ind (drop_function f) r ≡ write_function ind f r
 unfolding write_function drop_function

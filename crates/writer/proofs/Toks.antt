@@ -11,7 +11,7 @@ use Rattle.token.specs.Scan.{scan}
 use Rattle.token.specs.Breaks.{Stops, Bytes}
 use Rattle.token.specs.declared.Token.{Token}
 use Rattle.token.specs.declared.Token.TheVariants as T
-use Rattle.token.specs.declared.Scan.TheVariants.{Hit}
+use Rattle.std.specs.Prelude.{Some}
 use Rattle.lexer.specs.Tokens.{Lexeme, lexeme, skipped}
 use Rattle.utf8.specs.Utf8.{WellFormed}
 use Rattle.ast.proofs.Forget.{nowhere}
@@ -51,7 +51,7 @@ pub data Mark : Token → ℕ → Type 0 where
 -- by itself w is a token of the kind k, and no blank
 pub record Good (k : Token) (w : List ℕ) : Type 0 where
   pub bytes : Bytes w
-  pub scanned : scan w ≡ Hit k (length w)
+  pub scanned : scan w ≡ Some (k, length w)
   pub solid : skipped k ≡ false
   pub formed : WellFormed w
 

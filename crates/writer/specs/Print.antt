@@ -1,7 +1,7 @@
 -- The print of each definition: rico's writer/types.rs, values.rs, common.rs and document.rs.
 -- It is made of pieces, blanks and tokens: its bytes and its tokens are both read off them. `writeX x r` is x's pieces, then r.
 use Rattle.std.specs.Prelude.{Bool, true, false, List, [], ◌∷◌, ◌++◌, ℕ, replicate}
-use Rattle.std.proofs.Math.Option.{Option, some, none}
+use Rattle.std.specs.Prelude.{Option, Some, None}
 use Prim.Native.String.{String}
 use Rattle.token.specs.Regex.{bytes as ascii}
 use Rattle.token.specs.declared.Token.{Token}
@@ -142,8 +142,8 @@ write_comments ind [] r = r
 write_comments ind (c ∷ cs) r = gap ind ∷ write_comment c ∷ write_comments ind cs r
 
 unfoldable pub write_id : Option Lexeme → List Piece → List Piece
-write_id none r = r
-write_id (some t) r = own t ∷ mark T.Colon 58 ∷ space ∷ r
+write_id None r = r
+write_id (Some t) r = own t ∷ mark T.Colon 58 ∷ space ∷ r
 
 unfoldable pub write_required : Required → List Piece → List Piece
 write_required default r = r
@@ -151,8 +151,8 @@ write_required required r = keyword T.Required "required" ∷ space ∷ r
 write_required optional r = keyword T.Optional "optional" ∷ space ∷ r
 
 unfoldable pub write_default : Option FieldInitialValue → List Piece → List Piece
-write_default none r = r
-write_default (some v) r = space ∷ mark T.Equals 61 ∷ space ∷ write_value v r
+write_default None r = r
+write_default (Some v) r = space ∷ mark T.Equals 61 ∷ space ∷ write_value v r
 
 -- write_field
 unfoldable pub write_field : List ℕ → Field → List Piece → List Piece
@@ -165,8 +165,8 @@ unfoldable pub write_param : Field → List Piece → List Piece
 write_param (field l c i q t n v a) r = write_id i (write_type t (space ∷ own n ∷ write_default v r))
 
 unfoldable pub write_initializer : Option Lexeme → List Piece → List Piece
-write_initializer none r = r
-write_initializer (some t) r = space ∷ mark T.Equals 61 ∷ space ∷ own t ∷ r
+write_initializer None r = r
+write_initializer (Some t) r = space ∷ mark T.Equals 61 ∷ space ∷ own t ∷ r
 
 -- the members of write_enum
 unfoldable pub write_member : List ℕ → EnumMember → List Piece → List Piece
@@ -174,8 +174,8 @@ write_member ind (member l c n v a) r =
     write_comments ind c (gap ind ∷ own n ∷ write_initializer v (write_annotations a (comma ∷ line ∷ r)))
 
 unfoldable pub write_throws : Option (List Field) → List Piece → List Piece
-write_throws none r = r
-write_throws (some fs) r =
+write_throws None r = r
+write_throws (Some fs) r =
     space ∷ keyword T.Throws "throws" ∷ space ∷ mark T.LeftParen 40 ∷ write_each commas write_param fs (mark T.RightParen 41 ∷ r)
 
 unfoldable pub write_oneway : Bool → List Piece → List Piece
@@ -200,8 +200,8 @@ structure_keyword Union = keyword T.Union "union"
 structure_keyword Exception = keyword T.Exception "exception"
 
 unfoldable pub write_extends : Option Lexeme → List Piece → List Piece
-write_extends none r = r
-write_extends (some t) r = space ∷ keyword T.Extends "extends" ∷ space ∷ own t ∷ r
+write_extends None r = r
+write_extends (Some t) r = space ∷ keyword T.Extends "extends" ∷ space ∷ own t ∷ r
 
 -- write_include, write_cpp_include, write_namespace, write_const, write_typedef, write_enum, write_struct, write_union, write_exception, write_service
 unfoldable pub write_definition : List ℕ → Definition → List Piece → List Piece

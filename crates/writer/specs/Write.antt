@@ -7,8 +7,10 @@ use Rattle.ast.specs.Ast.{Definition}
 use Rattle.ast.specs.Records.{node_rows, notes, cleared}
 use Rattle.parser.specs.Read.{outcome, fitted, left, rows_by}
 use Rattle.writer.specs.Print.{printed}
-use Rattle.writer.specs.declared.Printed.{Printed}
-use Rattle.writer.specs.declared.Printed.TheVariants.{Accepted, Refused}
+use Rattle.std.specs.declared.result.Result.{Result}
+use Rattle.lexer.specs.declared.error.Refusal.{Refusal}
+use Rattle.lexer.specs.Refusal.{said_by}
+use Rattle.writer.specs.declared.Print.{Print}
 
 -- the most spaces a level
 abbrev pub widest : ℕ
@@ -41,10 +43,12 @@ unfoldable pub print_of : ℕ → Outcome (List Definition) → List ℕ
 print_of indent (accepted ds) = printed indent ds
 print_of indent (refused e p n) = []
 
--- what each case of the code's answer says
-unfoldable pub said : Printed → Outcome (List ℕ)
-said (Accepted n c b) = accepted (n ∷ c ∷ b ∷ [])
-said (Refused e p n) = refused e p n
+-- what the code's answer says
+abbrev pub Printed : Type 0
+Printed = Result Print Refusal
+
+abbrev pub said : Printed → Outcome (List ℕ)
+said = said_by (λ p. p.nodes ∷ p.comments ∷ p.bytes ∷ [])
 
 -- what a printing answers, both tables and the output afterwards
 pub record Printing : Type 0 where

@@ -1,17 +1,19 @@
 -- `cursor::is_below` meets its contract.
-use borrow.Author.Tests.{lt-ltb, le-ltb, eq-eqb, ne_eqb}
+use mathlib.Core.Path.{◌≡◌, refl}
+use mathlib.Core.Bool.{Bool, true, false, not, cond}
+use borrow.Author.Tests.{lt-ltb, le-ltb, lt-leb}
 use Rattle.ast.specs.Records.{no_parent}
 use Rattle.cursor.specs.Onto.{below}
 use Rattle.cursor.proofs.is_below.Goals as goal
 
-pub returns-then-parent-owner : goal.returns-then-parent-owner
+negation : (b : Bool) → not b ≡ cond b false true
+negation true = refl
+negation false = refl
+
+pub returns-then-owner-parent : goal.returns-then-owner-parent
+unfolding below no_parent
+returns-then-owner-parent c = rw (le-ltb _ _ c.if-owner-parent.true) (negation _)
+
+pub returns-else-owner-parent : goal.returns-else-owner-parent
 unfolding below
-returns-then-parent-owner c = rw (lt-ltb _ _ c.if-parent-owner.true)
-
-pub returns-then-parent-eq-NO_PARENT : goal.returns-then-parent-eq-NO_PARENT
-unfolding below no_parent
-returns-then-parent-eq-NO_PARENT c = rw (le-ltb _ _ c.if-parent-owner.false, eq-eqb _ _ c.if-parent-eq-NO_PARENT.true)
-
-pub returns : goal.returns
-unfolding below no_parent
-returns c = rw (le-ltb _ _ c.if-parent-owner.false, ne_eqb _ _ c.if-parent-eq-NO_PARENT.false)
+returns-else-owner-parent c = rw (lt-ltb _ _ c.if-owner-parent.false, lt-leb _ _ c.if-owner-parent.false)

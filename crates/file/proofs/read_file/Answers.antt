@@ -12,4 +12,4 @@ pub slice_bounds-read-end-4 : goal.slice_bounds-read-end-4
 slice_bounds-read-end-4 c = sym (length-take-le _ _ (omega arith))
 
 pub returns : goal.returns
-returns c = read_is _ _ _ _ _ _ _ _ _ _ c.at_most-a.ensures c.at_most-b.ensures c.read.ensures
+returns c = read_is _ _ _ _ _ _ _ _ _ _ c.min-a.ensures c.min-b.ensures c.read.ensures

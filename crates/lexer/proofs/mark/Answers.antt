@@ -16,4 +16,4 @@ until-loc-requires c = (c.requires.0, rw c.behind-behind.ensures (placed_behind 
 pub returns : goal.returns
 unfolding marked
 returns c =
-    rw (c.until-loc.ensures, c.behind-behind.ensures, ← c.mark_of.ensures, c.in-Hit.is)
+    rw (c.until-loc.ensures, c.behind-behind.ensures, ← c.mark_of.ensures, c.in-Some.is)

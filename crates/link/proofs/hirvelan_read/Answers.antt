@@ -1,14 +1,14 @@
 -- `link::hirvelan_read` meets its contract.
 use mathlib.Core.Path.{refl}
 use Rattle.lexer.specs.Outcome.{numbers}
-use Rattle.parser.specs.Read.{said}
+use Rattle.lexer.specs.Refusal.{said_by}
 use Rattle.link.proofs.Answers.{read_answer}
 use Rattle.link.proofs.hirvelan_read.Goals as goal
 
-pub returns-in-Accepted : goal.returns-in-Accepted
-unfolding said numbers
-returns-in-Accepted c = let d = c.read in read_answer d.result _ _ _ _ d.ensures _ _ _ c.in-Accepted.is refl c.fill_u32.ensures
+pub returns-in-Ok : goal.returns-in-Ok
+unfolding said_by numbers
+returns-in-Ok c = let d = c.read in read_answer d.result _ _ _ _ d.ensures _ _ _ c.in-Ok.is refl c.fill.ensures
 
-pub returns-in-Refused : goal.returns-in-Refused
-unfolding said numbers
-returns-in-Refused c = let d = c.read in read_answer d.result _ _ _ _ d.ensures _ _ _ c.in-Refused.is refl c.fill_u32-in-Refused.ensures
+pub returns-in-Err : goal.returns-in-Err
+unfolding said_by numbers
+returns-in-Err c = let d = c.read in read_answer d.result _ _ _ _ d.ensures _ _ _ c.in-Err.is refl (rw c.numbers.ensures at c.fill-in-Err.ensures)

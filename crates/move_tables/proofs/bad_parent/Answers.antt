@@ -30,5 +30,4 @@ loop-n-preserved c =
     scan_on c.loop-n-test.true s (rw c.parent-p.ensures at e)
 
 pub returns : goal.returns
-unfolding no_parent
 returns c = scan_done c.loop-n-test.false c.loop-n.invariant

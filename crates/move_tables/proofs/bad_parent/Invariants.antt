@@ -1,6 +1,5 @@
 -- `move_tables::bad_parent` meets its contract. The invariant: what is found from here on is what is found from the start.
 use mathlib.Core.List.{[], ◌∷◌}
-use Prim.Native.Nat.{◌-◌}
 use Rattle.ast.specs.Records.{no_parent}
 use Rattle.move_tables.specs.Moves.{bad_parent}
 use Rattle.move_tables.specs.Walk.{parents_from}
@@ -9,6 +8,3 @@ use Rattle.move_tables.proofs.bad_parent.Given as goal
 
 abbrev pub invariant-loop-n : goal.invariant-loop-n
 invariant-loop-n l = Scan l.width l.table l.count l.n l.at (bad_parent 0 (no_parent ∷ []) (parents_from l.width l.table l.count 0))
-
-abbrev pub decreases-loop-n : goal.decreases-loop-n
-decreases-loop-n l = l.count - l.n

@@ -2,6 +2,7 @@
 use Rattle.ast.specs.Records.{node_width, no_parent}
 use Rattle.move_tables.proofs.Ancestors.{holds_less}
 use Rattle.move_tables.proofs.Endings.{walk_start, walk_passes, walk_on, end_passes, end_up, walk_end}
+use Rattle.move_tables.proofs.Results.{tenth_missing, tenth_found}
 use Rattle.move_tables.proofs.bad_tenth.Goals as goal
 
 pub loop-n-init : goal.loop-n-init
@@ -22,13 +23,20 @@ loop-n-preserved c =
     let k = c.loop-n.invariant in
     walk_on c.loop-n-test.true k _ (rw c.parent-p.ensures at (c.check_past-bad.ensures k.ancestors k.is))
 
-pub check_past-requires : goal.check_past-requires
+pub check_past-lowest-requires : goal.check_past-lowest-requires
 unfolding no_parent
-check_past-requires c = end_passes c.loop-n-test.false c.loop-n.invariant c.requires.holds
+check_past-lowest-requires c = end_passes c.loop-n-test.false c.loop-n.invariant c.requires.holds
 
-pub returns : goal.returns
+pub returns-then-lowest : goal.returns-then-lowest
 unfolding no_parent
-returns c =
+returns-then-lowest c =
     let k = c.loop-n.invariant in
     let h = c.loop-n-test.false in
-    walk_end h k _ (c.check_past.ensures k.ancestors (end_up h k))
+    tenth_missing _ _ c.requires.holds.few c.requires (walk_end h k _ (c.check_past-lowest.ensures k.ancestors (end_up h k))) c.if-lowest.true
+
+pub returns-else-lowest : goal.returns-else-lowest
+unfolding no_parent
+returns-else-lowest c =
+    let k = c.loop-n.invariant in
+    let h = c.loop-n-test.false in
+    tenth_found _ _ c.requires.holds.few c.requires (walk_end h k _ (c.check_past-lowest.ensures k.ancestors (end_up h k))) c.if-lowest.false

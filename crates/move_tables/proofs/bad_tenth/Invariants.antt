@@ -1,6 +1,5 @@
 -- `move_tables::bad_tenth` meets its contract. The invariant: `Walked`.
 use mathlib.Core.List.{[], ◌∷◌}
-use Prim.Native.Nat.{◌-◌}
 use Rattle.ast.specs.Records.{node_width, no_parent}
 use Rattle.move_tables.specs.Walk.{parents_from, walk, lower_bad}
 use Rattle.move_tables.proofs.Endings.{Walked}
@@ -8,6 +7,3 @@ use Rattle.move_tables.proofs.bad_tenth.Given as goal
 
 abbrev pub invariant-loop-n : goal.invariant-loop-n
 invariant-loop-n l = Walked node_width l.table (lower_bad l.table) l.count l.n l.at l.bad (walk (lower_bad l.table) 0 (no_parent ∷ []) (parents_from node_width l.table l.count 0) no_parent)
-
-abbrev pub decreases-loop-n : goal.decreases-loop-n
-decreases-loop-n l = l.count - l.n

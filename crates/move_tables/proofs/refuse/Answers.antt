@@ -1,8 +1,9 @@
 -- `move_tables::refuse` meets its contract.
-use Rattle.move_tables.specs.Moves.{into, said}
+use Rattle.lexer.specs.Refusal.{said_by}
+use Rattle.move_tables.specs.Moves.{into}
 use Rattle.steps.proofs.Cells.{wipe_all}
 use Rattle.move_tables.proofs.refuse.Goals as goal
 
 pub returns : goal.returns
-unfolding into said
-returns c = rw (c.clear.ensures, wipe_all)
+unfolding into said_by
+returns c = rw (c.clear.ensures, c.at.ensures, wipe_all)

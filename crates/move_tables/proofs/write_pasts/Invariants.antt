@@ -1,7 +1,6 @@
 -- `move_tables::write_pasts` meets its contract. The invariant: `Walked`, and the output's length.
 use mathlib.Core.Path.{◌≡◌}
 use mathlib.Core.List.{[], ◌∷◌}
-use Prim.Native.Nat.{◌-◌}
 use lib.ListN.{length}
 use Rattle.ast.specs.Records.{no_parent}
 use Rattle.move_tables.specs.Moves.{narrow_width}
@@ -11,6 +10,3 @@ use Rattle.move_tables.proofs.write_pasts.Given as goal
 
 abbrev pub invariant-loop-n : goal.invariant-loop-n
 invariant-loop-n l = (length l.out ≡ length l.initial.out) × (Walked narrow_width l.table writes l.count l.n l.at l.out (walk writes 0 (no_parent ∷ []) (parents_from narrow_width l.table l.count 0) l.initial.out))
-
-abbrev pub decreases-loop-n : goal.decreases-loop-n
-decreases-loop-n l = l.count - l.n

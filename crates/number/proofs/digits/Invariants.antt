@@ -1,12 +1,8 @@
--- `number::digits` meets its contract. The invariant: the value so far and the digits from `i` on make the number.
+-- `number::digits` meets its contract. The invariant: the value so far and the digits behind it make the number.
 use mathlib.Core.Path.{◌≡◌}
-use Prim.Native.Nat.{◌≤◌, ◌-◌}
-use lib.ListN.{length, drop}
+use lib.ListN.{drop}
 use Rattle.number.specs.Value.{digits}
 use Rattle.number.proofs.digits.Given as goal
 
-abbrev pub invariant-loop-i : goal.invariant-loop-i
-invariant-loop-i l = (l.i ≤ length l.bytes) × (l.value ≤ l.most) × (digits l.base 0 l.bytes ≡ digits l.base l.value (drop l.i l.bytes))
-
-abbrev pub decreases-loop-i : goal.decreases-loop-i
-decreases-loop-i l = length l.bytes - l.i
+abbrev pub invariant-loop-byte : goal.invariant-loop-byte
+invariant-loop-byte l = digits l.base 0 l.bytes ≡ digits l.base l.value (drop l.byte-index l.bytes)

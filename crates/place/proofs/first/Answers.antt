@@ -1,17 +1,15 @@
 -- `place::first` meets its contract.
-use mathlib.Core.Path.{sym, ap, ◌∙◌}
-use Rattle.token.specs.declared.Scan.{Scan}
-use Rattle.place.specs.Place.{kind_of, length_of, least}
+use mathlib.Core.Path.{ap, ◌∙◌}
+use Prim.Native.Nat.{ℕ, min}
+use Rattle.std.specs.Option.{unwrap_or}
+use Rattle.token.specs.Scan.{scan}
+use Rattle.token.specs.Scanned.{Scan}
+use Rattle.token.specs.declared.Token.TheVariants as T
+use Rattle.place.proofs.WalkLaws.{first_or}
 use Rattle.place.proofs.first.Goals as goal
 
-pub returns-in_default : goal.returns-in_default
-unfolding kind_of length_of
-returns-in_default c =
-    let e = sym c.in_default.is ∙ c.scan_token-found.ensures in
-    (ap kind_of e, c.least.ensures ∙ ap (λ (r : Scan). least (length_of r) c.args.most) e)
-
 pub returns : goal.returns
-unfolding kind_of length_of
 returns c =
-    let e = sym c.in-Hit.is ∙ c.scan_token-found.ensures in
-    (ap kind_of e, c.least-2.ensures ∙ ap (λ (r : Scan). least (length_of r) c.args.most) e)
+    let u = c.unwrap_or-token.ensures ∙ ap (λ (r : Scan). unwrap_or r (T.Blank, 1)) c.scan_token.ensures in
+    let f = first_or (scan c.args.text.now) in
+    (ap (λ p. p.0) u ∙ f.0, c.min.ensures ∙ ap (λ (n : ℕ). min n c.args.most) (ap (λ p. p.1) u ∙ f.1))

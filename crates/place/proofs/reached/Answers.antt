@@ -11,7 +11,8 @@ use Rattle.lexer.specs.declared.location.Lexer.{Lexer}
 use Rattle.lexer.specs.Location.{Placed, opening, span_of}
 use Rattle.lexer.proofs.PlaceLaws.{opening_placed, pass_placed}
 use Rattle.scan.proofs.Part.{part}
-use Rattle.place.specs.Place.{length_of, walk, least, step}
+use Rattle.std.specs.Prelude.{min}
+use Rattle.place.specs.Place.{length_of, walk, step}
 use Rattle.place.proofs.WalkLaws.{step_length, step_at, walk_step, walk_none}
 use Rattle.place.proofs.reached.Goals as goal
 
@@ -27,7 +28,7 @@ module _ (t : List ℕ) (m : ℕ) (s : Lexer) (h : s.at < m) (g : m ≤ length t
   ahead = drop s.at t
 
   abbrev n : ℕ
-  n = least (length_of (scan ahead)) rest
+  n = min (length_of (scan ahead)) rest
 
   fits : rest ≤ length ahead
   fits = omega (arith, length-drop s.at t, g)
@@ -70,7 +71,7 @@ loop-from-init c = rw c.new-from.ensures (opening_placed, omega arith, start _ _
 pub pass_first-from-requires : goal.pass_first-from-requires
 pass_first-from-requires c =
     let at = c.loop-from.from.at in
-    (c.requires.0, omega (arith, c.if-place-at.false), rw (part c.args.text.now at) (omega (arith, length-drop at c.args.text.now, c.requires.1)), c.loop-from.invariant.0, omega (arith, c.loop-from.invariant.1, c.requires.2))
+    (omega (arith, c.if-place-at.false), rw (part c.args.text.now at) (omega (arith, length-drop at c.args.text.now, c.requires.0)), c.loop-from.invariant.0, omega (arith, c.loop-from.invariant.1, c.requires.1))
 
 pub returns-then-place-at : goal.returns-then-place-at
 returns-then-place-at c =
@@ -80,11 +81,11 @@ returns-then-place-at c =
 
 pub loop-from-smaller : goal.loop-from-smaller
 loop-from-smaller c =
-    let f = goes_further c.args.text.now c.args.place c.loop-from.from c.if-place-at.false c.requires.1 c.pass_first-from.result c.pass_first-from.ensures in
+    let f = goes_further c.args.text.now c.args.place c.loop-from.from c.if-place-at.false c.requires.0 c.pass_first-from.result c.pass_first-from.ensures in
     omega (arith, f.0, c.if-place-at.false)
 
 pub loop-from-preserved : goal.loop-from-preserved
 loop-from-preserved c =
     let i = c.loop-from.invariant in
-    let f = goes_on c.args.text.now c.args.place c.loop-from.from c.if-place-at.false c.requires.1 c.pass_first-from.result c.pass_first-from.ensures i.0 c.requires.2 in
+    let f = goes_on c.args.text.now c.args.place c.loop-from.from c.if-place-at.false c.requires.0 c.pass_first-from.result c.pass_first-from.ensures i.0 c.requires.1 in
     (f.0, f.1, i.2 ∙ f.2)

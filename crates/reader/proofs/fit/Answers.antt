@@ -2,7 +2,7 @@
 use Prim.Native.Nat.{◌<◌, ◌≤◌}
 use borrow.Author.Tests.{lt-ltb, le-ltb}
 use Rattle.ast.specs.Records.{comment_width, node_width, room}
-use Rattle.parser.specs.Read.{said}
+use Rattle.lexer.specs.Refusal.{said_by}
 use Rattle.reader.specs.Into.{fits}
 use Rattle.reader.proofs.fit.Goals as goal
 
@@ -11,7 +11,7 @@ unfolding fits room comment_width node_width
 returns-then-nodes-next c =
     let a = c.args in
     let h : room node_width a.nodes.now < a.state.next = c.if-nodes-next.true in
-    rw (lt-ltb _ _ h) c.refuse.ensures
+    rw (lt-ltb _ _ h) (rw c.at.ensures at c.refuse.ensures)
 
 pub returns-then-comments-owned : goal.returns-then-comments-owned
 unfolding fits room comment_width node_width
@@ -19,10 +19,10 @@ returns-then-comments-owned c =
     let a = c.args in
     let h : a.state.next ≤ room node_width a.nodes.now = c.if-nodes-next.false in
     let k : room comment_width a.comments.now < a.state.owned = c.if-comments-owned.true in
-    rw (le-ltb _ _ h, lt-ltb _ _ k) c.refuse-then-comments-owned.ensures
+    rw (le-ltb _ _ h, lt-ltb _ _ k) (rw c.at-then-comments-owned.ensures at c.refuse-then-comments-owned.ensures)
 
 pub returns : goal.returns
-unfolding fits room comment_width node_width said
+unfolding fits room comment_width node_width said_by
 returns c =
     let a = c.args in
     let h : a.state.next ≤ room node_width a.nodes.now = c.if-nodes-next.false in

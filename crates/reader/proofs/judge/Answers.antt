@@ -4,10 +4,10 @@ use Rattle.steps.specs.Into.{shows}
 use Rattle.reader.specs.Into.{judged}
 use Rattle.reader.proofs.judge.Goals as goal
 
-pub returns-in-Refused : goal.returns-in-Refused
+pub returns-in-Err : goal.returns-in-Err
 unfolding judged shows
-returns-in-Refused c = c.refuse_at.ensures ∙ rw c.in-Refused.is
+returns-in-Err c = c.refuse_at.ensures ∙ rw c.in-Err.is
 
-pub returns-in-On : goal.returns-in-On
+pub returns-in-Ok : goal.returns-in-Ok
 unfolding judged shows
-returns-in-On c = c.fit.ensures ∙ rw c.in-On.is
+returns-in-Ok c = c.fit.ensures ∙ rw c.in-Ok.is

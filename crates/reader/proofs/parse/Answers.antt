@@ -1,31 +1,25 @@
 -- `reader::parse` meets its contract.
-use mathlib.Core.Path.{refl, sym, ◌∙◌}
+use mathlib.Core.Path.{sym, ◌∙◌}
 use native.Mathlib.Omega.{arith}
-use Rattle.token.specs.Tables.{classes, tables, trie}
-use Rattle.reader.proofs.Whole.{parse_unknown, parse_judged, unknown_small}
+use Rattle.lexer.proofs.Places.{unknown_small}
+use Rattle.reader.proofs.Whole.{parse_unknown, parse_judged}
 use Rattle.reader.proofs.parse.Goals as goal
 
 pub begin-st-requires : goal.begin-st-requires
-unfolding classes tables trie
-begin-st-requires c = record { tabled = refl; short = c.requires }
+begin-st-requires c = record { short = c.requires }
 
 pub parse_document-parsed-requires : goal.parse_document-parsed-requires
-unfolding classes tables trie
-parse_document-parsed-requires c = record { tabled = refl; short = c.requires }
-
-pub unrecognized-requires : goal.unrecognized-requires
-unfolding classes tables trie
-unrecognized-requires c = refl
+parse_document-parsed-requires c = record { short = c.requires }
 
 pub overflow_cast-at : goal.overflow_cast-at
 overflow_cast-at c =
     let u = c.unscanned-from in
-    omega (arith, unknown_small c.args.text.now u.result _ (sym c.unrecognized.ensures ∙ c.in-At.is), u.ensures.0, c.requires)
+    omega (arith, unknown_small c.args.text.now u.result _ (sym c.unrecognized.ensures ∙ c.in-Some.is), u.ensures.0, c.requires)
 
-pub returns-in-At : goal.returns-in-At
-returns-in-At c =
+pub returns-in-Some : goal.returns-in-Some
+returns-in-Some c =
     parse_unknown _ _ _ _ _ _ _ _ c.begin-st.ensures c.parse_document-parsed.ensures (c.unscanned-from.ensures.1 _ _) c.parse_document-parsed.auto.nodes c.parse_document-parsed.auto.comments
-    _ _ (sym c.unrecognized.ensures ∙ c.in-At.is) c.refuse.ensures
+    _ _ (sym c.unrecognized.ensures ∙ c.in-Some.is) (rw c.at.ensures at c.refuse.ensures)
 
 pub returns : goal.returns
 returns c =

@@ -2,18 +2,19 @@
 use mathlib.Core.Path.{sym, ◌∙◌}
 use native.Mathlib.Omega.{arith}
 use Rattle.lexer.proofs.CheckLaws.{too_long, ill}
-use Rattle.reader.proofs.Whole.{read_long, read_ill, ill_small}
+use Rattle.lexer.proofs.Places.{ill_small}
+use Rattle.reader.proofs.Whole.{read_long, read_ill}
 use Rattle.reader.proofs.Meant.{parsing_means}
 use Rattle.reader.proofs.read.Goals as goal
 
 pub returns-then-text-gt-LIMIT : goal.returns-then-text-gt-LIMIT
-returns-then-text-gt-LIMIT c = c.refuse.ensures ∙ read_long _ _ _ (too_long _ c.if-text-gt-LIMIT.true)
+returns-then-text-gt-LIMIT c = rw c.at.ensures at c.refuse.ensures ∙ read_long _ _ _ (too_long _ c.if-text-gt-LIMIT.true)
 
 pub overflow_cast-at : goal.overflow_cast-at
-overflow_cast-at c = omega (arith, ill_small _ _ (sym c.ill_formed.ensures ∙ c.in-At.is), c.if-text-gt-LIMIT.false)
+overflow_cast-at c = omega (arith, ill_small _ _ (sym c.ill_formed.ensures ∙ c.in-Some.is), c.if-text-gt-LIMIT.false)
 
-pub returns-in-At : goal.returns-in-At
-returns-in-At c = c.refuse-in-At.ensures ∙ read_ill _ _ _ _ (ill _ c.if-text-gt-LIMIT.false _ (sym c.ill_formed.ensures ∙ c.in-At.is))
+pub returns-in-Some : goal.returns-in-Some
+returns-in-Some c = rw c.at-in-Some.ensures at c.refuse-in-Some.ensures ∙ read_ill _ _ _ _ (ill _ c.if-text-gt-LIMIT.false _ (sym c.ill_formed.ensures ∙ c.in-Some.is))
 
 pub returns : goal.returns
 returns c = c.parse.ensures ∙ parsing_means _ _ _ c.if-text-gt-LIMIT.false (sym c.ill_formed.ensures ∙ c.in_default.is)

@@ -4,10 +4,10 @@ use Rattle.steps.specs.Into.{shows}
 use Rattle.reader.specs.Into.{unscanned}
 use Rattle.reader.proofs.unscanned.Goals as goal
 
-pub returns-in-Refused : goal.returns-in-Refused
+pub returns-in-Err : goal.returns-in-Err
 unfolding unscanned shows
-returns-in-Refused c = (omega arith, λ t u. rw c.in-Refused.is)
+returns-in-Err c = (omega arith, λ t u. rw c.in-Err.is)
 
-pub returns-in-On : goal.returns-in-On
+pub returns-in-Ok : goal.returns-in-Ok
 unfolding unscanned shows
-returns-in-On c = (omega arith, λ t u. rw c.in-On.is c.index_of.ensures)
+returns-in-Ok c = (omega arith, λ t u. rw c.in-Ok.is c.index_of.ensures)

@@ -1,21 +1,13 @@
--- `replay::has_pair` meets its contract. The invariant: what stands from here on decides.
-use mathlib.Core.Path.{refl, sym, ap, ◌∙◌}
-use lib.ListN.{drop_of_length-le}
-use Rattle.lexer.specs.Location.{has_pair}
-use Rattle.replay.proofs.Pairs.{pair_here, pair_on}
+-- `replay::has_pair` meets its contract.
+use Rattle.std.proofs.Common.{◌∙◌, length, arith, rules, tests}
+use Rattle.std.proofs.lemmas.Iterator.{YieldsList-from_range}
+use Rattle.std.proofs.lemmas.Iterator.Search.{any_from_yields_List}
+use Rattle.replay.specs.Pair.{pair_at}
+use Rattle.replay.proofs.Pairs.{any_pair}
 use Rattle.replay.proofs.has_pair.Goals as goal
 
-pub loop-at-init : goal.loop-at-init
-loop-at-init c = refl
-
-pub returns-then-is_pair : goal.returns-then-is_pair
-returns-then-is_pair c =
-    sym (c.loop-at.invariant ∙ pair_here _ _ c.loop-at-test.true (sym c.is_pair.ensures ∙ c.if-is_pair.true))
-
-pub loop-at-preserved : goal.loop-at-preserved
-loop-at-preserved c =
-    c.loop-at.invariant ∙ pair_on _ _ c.loop-at-test.true (sym c.is_pair.ensures ∙ c.if-is_pair.false)
-
 pub returns : goal.returns
-unfolding has_pair
-returns c = sym (c.loop-at.invariant ∙ ap has_pair (drop_of_length-le _ c.loop-at-test.false))
+returns c =
+    let text = c.args.text.now in
+    let e = any_from_yields_List (pair_at text) _ _ c.any.result c.any.ensures.ran (YieldsList-from_range 0 (length text) (length text) (cc) (omega arith)) (λ x b q k. search (rules, tests)) in
+    e ∙ any_pair text (length text) 0 (omega arith)

@@ -1,15 +1,13 @@
 -- `replay::is_pair` meets its contract.
-use Rattle.replay.proofs.Pairs.{pair_past, pair_other, pair_cut, pair_next}
+use mathlib.Core.Logic.{⊎_elim}
+use Rattle.std.proofs.Common.{◌∙◌, arith}
+use Rattle.replay.proofs.Pairs.{pair_past, pair_front}
 use Rattle.replay.proofs.is_pair.Goals as goal
 
-pub returns-then-text-at : goal.returns-then-text-at
-returns-then-text-at c = pair_past _ _ c.if-text-at.true
-
-pub returns-then-text-at-ne13 : goal.returns-then-text-at-ne13
-returns-then-text-at-ne13 c = let a = c.args in pair_other a.text.now a.at c.if-text-at-ne13.true
-
-pub returns-then-text-next : goal.returns-then-text-next
-returns-then-text-next c = pair_cut _ _ c.if-text-at-ne13.false c.if-text-next.true
+pub returns-in_default : goal.returns-in_default
+returns-in_default c = ⊎_elim (λ m. pair_past _ _ m) (λ m. absurd (omega (arith, m))) c.in_default.ensures.lookup.0
 
 pub returns : goal.returns
-returns c = pair_next _ _ c.if-text-at-ne13.false
+returns c =
+    let a = c.args in
+    c.starts_with.ensures.value ∙ rw c.in-Some.ensures.lookup.0.2 (pair_front a.text.now a.at)

@@ -1,18 +1,13 @@
--- `replay::zero_from` meets its contract. The invariant: all numbers from the index to here are 0.
-use mathlib.Core.Path.{refl, sym}
-use mathlib.Core.Bool.{true≢false}
-use native.Mathlib.Omega.{arith}
-use Rattle.replay.proofs.Zeros.{zeros_on, zeros_whole}
+-- `replay::zero_from` meets its contract.
+use Rattle.std.proofs.Common.{ℕ, eqb, rules, tests}
+use Rattle.std.proofs.lemmas.Iterator.{YieldsList-from_slice}
+use Rattle.std.proofs.lemmas.Iterator.Adapters.{YieldsList-from_skip}
+use Rattle.std.proofs.lemmas.Iterator.Search.{all_from_yields_List}
+use Rattle.replay.proofs.Zeros.{zero_all}
 use Rattle.replay.proofs.zero_from.Goals as goal
 
-pub loop-i-init : goal.loop-i-init
-loop-i-init c = (omega arith, λ k h l. absurd (omega (arith, h, l)))
-
-pub returns-then-table-i-ne0 : goal.returns-then-table-i-ne0
-returns-then-table-i-ne0 c = (λ e. absurd (true≢false (sym e)), λ z. absurd (c.if-table-i-ne0.true (z _ c.loop-i.invariant.0)))
-
-pub loop-i-preserved : goal.loop-i-preserved
-loop-i-preserved c = let l = c.loop-i.invariant in (omega (arith, l.0), zeros_on c.args.table.now _ _ l.1 c.if-table-i-ne0.false)
-
 pub returns : goal.returns
-returns c = (λ e. zeros_whole c.args.table.now _ _ c.loop-i.invariant.1 c.loop-i-test.false, λ z. refl)
+returns c =
+    let a = c.args in
+    zero_all a.table.now a.start _
+    (all_from_yields_List (λ (n : ℕ). eqb n 0) _ _ _ c.all.ensures.ran (YieldsList-from_skip a.start (YieldsList-from_slice a.table.now cc) c.skip.ensures.count) (λ x b q k. search (rules, tests)))

@@ -1,11 +1,13 @@
 -- `replay_tokens::same_text` meets its contract: a text that is cut is short enough for the lexer.
-use Rattle.lexer.proofs.CheckLaws.{fine_fits, unknown_fits, told_fine, told_unknown}
+use Rattle.std.proofs.Common.{ap, ◌∙◌}
+use Rattle.lexer.specs.Outcome.{refused}
+use Rattle.lexer.specs.Refusal.{number_of}
+use Rattle.lexer.proofs.CheckLaws.{fine_fits, unknown_fits, told_fine, told_refused}
 use Rattle.replay_tokens.proofs.same_text.Goals as goal
 
-pub same_cuts-requires : goal.same_cuts-requires
-same_cuts-requires c =
-    fine_fits _ (told_fine _ _ c.check.ensures c.in-Fine.is)
+pub same_tokens-requires : goal.same_tokens-requires
+same_tokens-requires c = fine_fits _ (told_fine _ _ c.check.ensures _ c.in-Ok.is)
 
-pub same_cuts-requires-in-Unrecognized : goal.same_cuts-requires-in-Unrecognized
-same_cuts-requires-in-Unrecognized c =
-    unknown_fits _ _ (told_unknown _ _ c.check.ensures _ c.in-Unrecognized.is)
+pub same_tokens-requires-in-NoToken : goal.same_tokens-requires-in-NoToken
+same_tokens-requires-in-NoToken c =
+    unknown_fits _ _ _ (told_refused _ _ c.check.ensures _ c.in-Err.is ∙ ap (λ k. refused (number_of k) c.in-Err.refusal.place c.in-Err.refusal.length) c.in-NoToken.is)

@@ -6,7 +6,7 @@ use Rattle.scan.proofs.ScanLaws.{block_end, star_end, star_close, star_on}
 use Rattle.scan.proofs.block_of.Goals as goal
 
 pub loop-i-init : goal.loop-i-init
-loop-i-init c = c.requires.1
+loop-i-init c = c.requires
 
 pub find-j-requires : goal.find-j-requires
 find-j-requires c = c.loop-i.invariant.inside
@@ -22,7 +22,7 @@ returns-then-text-j-2 c =
     sym (star_end r _ (c.find-j.ensures ∙ star_next r) c.if-text-j.false c.if-text-j-2.true)
 
 pub class_at-requires : goal.class_at-requires
-class_at-requires c = (c.requires.0, c.if-text-j-2.false)
+class_at-requires c = (c.if-text-j-2.false)
 
 pub returns-then-class_at-eq-SLASH : goal.returns-then-class_at-eq-SLASH
 returns-then-class_at-eq-SLASH c =

@@ -5,10 +5,10 @@ use Rattle.scan.proofs.ScanLaws.{point_digit, point_stop}
 use Rattle.scan.proofs.dot_of.Goals as goal
 
 pub returns-then-text-le1 : goal.returns-then-text-le1
-returns-then-text-le1 c = sym (reach_end c.requires.1 c.if-text-le1.true)
+returns-then-text-le1 c = sym (reach_end c.requires c.if-text-le1.true)
 
 pub fraction_of-requires : goal.fraction_of-requires
-fraction_of-requires c = (c.requires.0, point_digit c.requires.1 c.if-text-le1.false (rw c.class_at.ensures at c.if-class_at-lt-E.true))
+fraction_of-requires c = (point_digit c.requires c.if-text-le1.false (rw c.class_at.ensures at c.if-class_at-lt-E.true))
 
 pub returns : goal.returns
-returns c = sym (point_stop c.requires.1 c.if-text-le1.false (rw c.class_at.ensures at c.if-class_at-lt-E.false))
+returns c = sym (point_stop c.requires c.if-text-le1.false (rw c.class_at.ensures at c.if-class_at-lt-E.false))

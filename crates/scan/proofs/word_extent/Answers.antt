@@ -6,7 +6,7 @@ use Rattle.scan.proofs.word_extent.Goals as goal
 
 pub name_end-requires : goal.name_end-requires
 name_end-requires c =
-    (c.requires.0, rw (part c.args.text.now c.args.at) (letter_at c.args.text.now c.args.at (λ j. omega (arith, c.type_inv.text j)) c.requires.1 c.requires.2 c.requires.3))
+    (rw (part c.args.text.now c.args.at) (letter_at c.args.text.now c.args.at (λ j. omega (arith, c.type_inv.text j)) c.requires.0 c.requires.1 c.requires.2))
 
 pub returns : goal.returns
 returns c = let a = c.args in rw (part a.text.now a.at) at c.name_end.ensures.0

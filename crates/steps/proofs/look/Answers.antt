@@ -60,7 +60,7 @@ returns-then-from c =
 pub next_token-next-requires : goal.next_token-next-requires
 next_token-next-requires c =
     let p = c.requires in
-    (p.tabled, p.short, stands _ c.lexer_at-from.ensures c.if-from-gt-LIMIT.false c.if-from.false)
+    (p.short, stands _ c.lexer_at-from.ensures c.if-from-gt-LIMIT.false c.if-from.false)
 
 pub pack-requires : goal.pack-requires
 pack-requires c =

@@ -9,8 +9,8 @@ loop-token-init c = rw c.new-from.ensures opening_placed
 
 pub loop-token-smaller : goal.loop-token-smaller
 loop-token-smaller c =
-    let i = next_inside _ _ _ _ (sym c.next_token-next.ensures ∙ c.in-On.is) in
+    let i = next_inside _ _ _ _ (sym c.next_token.ensures ∙ c.in-On.is) in
     omega (arith, i.0, i.1, i.2, i.3)
 
 pub loop-token-preserved : goal.loop-token-preserved
-loop-token-preserved c = next_placed _ _ _ _ c.loop-token.invariant c.requires.1 (sym c.next_token-next.ensures ∙ c.in-On.is)
+loop-token-preserved c = next_placed _ _ _ _ c.loop-token.invariant c.requires (sym c.next_token.ensures ∙ c.in-On.is)

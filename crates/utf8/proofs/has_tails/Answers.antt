@@ -1,44 +1,16 @@
--- `utf8::has_tails` meets its contract. The invariant: what is left to see is whether `left` tail bytes stand at `i`.
-use mathlib.Core.Path.{◌≡◌, refl, sym, ◌∙◌}
-use mathlib.Core.Bool.{◌&&◌}
-use Prim.Native.Nat.{◌-◌, ◌+◌}
-use native.Mathlib.Omega.{arith}
-use borrow.Author.Tests.{le-leb, lt-leb}
-use lib.Dec.{leb}
-use lib.ListN.{get_or, drop, replicate}
-use Rattle.utf8.specs.Utf8.{tail, begins}
-use Rattle.utf8.proofs.Utf8Laws.{tails_end, tails_step}
+-- `utf8::has_tails` meets its contract: each of the first bytes is a tail byte.
+use mathlib.Core.Path.{sym, ◌∙◌}
+use borrow.Author.Rules.{rules}
+use borrow.Author.Tests.{lt-leb, tests}
+use lib.ListN.{take}
+use Rattle.std.proofs.lemmas.Iterator.{YieldsList-from_slice, cases_from_all}
+use Rattle.utf8.proofs.Utf8Laws.{IsTail, NoTail, tails_short, tails_met}
 use Rattle.utf8.proofs.has_tails.Goals as goal
-use Rattle.utf8.proofs.has_tails.Goals.{Else-text-i}
 
--- what a turn makes of the invariant
-stepped : (c : Else-text-i)
-    → let l = c.loop-left in
-    let a = c.args in
-    let b = get_or a.text.now l.i 0 in
-    begins (replicate a.count tail) (drop a.at a.text.now)
-    ≡ (leb 0x80 b && leb b 0xbf && begins (replicate (l.left - 1) tail) (drop (l.i + 1) a.text.now))
-stepped c =
-    c.loop-left.invariant.1 ∙ tails_step c.loop-left.left _ c.loop-left.i c.loop-left-test.true c.if-text-i.false
+pub returns-then-count-text : goal.returns-then-count-text
+returns-then-count-text c =
+    tails_met _ _ _ c.if-count-text.true
+    (cases_from_all _ _ _ IsTail NoTail c.all.ensures.ran (YieldsList-from_slice (take c.args.count c.args.text.now) cc) (λ x q k. search (rules, tests)) (λ x q k. search (rules, tests)))
 
-pub loop-left-init : goal.loop-left-init
-loop-left-init c = (c.requires, refl)
-
-pub returns-then-text-i : goal.returns-then-text-i
-returns-then-text-i c =
-    sym (c.loop-left.invariant.1 ∙ tails_end c.loop-left.left _ c.loop-left.i c.loop-left-test.true c.if-text-i.true)
-
-pub returns-then-byte-lt128 : goal.returns-then-byte-lt128
-returns-then-byte-lt128 c = sym (rw (lt-leb _ _ c.if-byte-lt128.true) at (stepped (goal.at.returns-then-byte-lt128 c).Else-text-i))
-
-pub returns-then-byte-gt191 : goal.returns-then-byte-gt191
-returns-then-byte-gt191 c = sym (rw (le-leb _ _ c.if-byte-lt128.false, lt-leb _ _ c.if-byte-gt191.true) at (stepped (goal.at.returns-then-byte-gt191 c).Else-text-i))
-
-pub loop-left-preserved : goal.loop-left-preserved
-loop-left-preserved c = (omega arith, rw (le-leb _ _ c.if-byte-lt128.false, le-leb _ _ c.if-byte-gt191.false) at (stepped (goal.at.loop-left-preserved c).Else-text-i))
-
-pub returns : goal.returns
-unfolding begins
-returns c =
-    let e : c.loop-left.left ≡ 0 = omega arith in
-    sym (rw e at c.loop-left.invariant.1)
+pub returns-else-count-text : goal.returns-else-count-text
+returns-else-count-text c = lt-leb _ _ c.if-count-text.false ∙ sym (tails_short _ _ c.if-count-text.false)

@@ -1,6 +1,6 @@
 -- `utf8::width_at` meets its contract: the first byte says which bytes have to follow, and they are looked at one after the other.
-use mathlib.Core.Path.{◌≡◌, sym, ◌∙◌}
-use mathlib.Core.Bool.{cond, ◌&&◌}
+use mathlib.Core.Path.{◌≡◌, sym, ap, ◌∙◌}
+use mathlib.Core.Bool.{Bool, cond, ◌&&◌}
 use mathlib.Core.List.{◌∷◌}
 use Prim.Native.Nat.{suc, ◌+◌}
 use native.Mathlib.Numerals.{add-one}
@@ -10,7 +10,7 @@ use lib.ListN.{get_or, drop, replicate}
 use lib.Seq.{drop-cons}
 use Rattle.token.specs.Regex.{to}
 use Rattle.utf8.specs.Utf8.{tail, sequences, begins, width}
-use Rattle.utf8.proofs.Utf8Laws.{begins_end, begins_step}
+use Rattle.utf8.proofs.Utf8Laws.{begins_end, begins_step, rest_part}
 use Rattle.utf8.proofs.width_at.Goals as goal
 use Rattle.utf8.proofs.width_at.Goals.{After-has_tails, After-lead_of-low, Else-text-second}
 
@@ -42,7 +42,7 @@ tailed : (c : After-has_tails)
     width sequences (drop a.at a.text.now)
     ≡ cond (leb l.0 b && leb b l.1 && begins (replicate l.2 tail) (drop (a.at + 1 + 1) a.text.now)) (l.2 + 2) 0 →
     width sequences (drop a.at a.text.now) ≡ cond c.has_tails.result (l.2 + 2) 0
-tailed c h = rw (le-leb _ _ c.if-byte-low.false, le-leb _ _ c.if-high-byte.false, ← c.has_tails.ensures) at h
+tailed c h = rw (le-leb _ _ c.if-byte-low.false, le-leb _ _ c.if-high-byte.false) at h ∙ ap (λ (b : Bool). cond b (c.lead_of-low.result.2 + 2) 0) (sym (c.has_tails.ensures ∙ rw rest_part))
 
 pub returns-then-text-second : goal.returns-then-text-second
 returns-then-text-second c = sym (rw (begins_end _ _ _ _ _ c.if-text-second.true) at (led (goal.at.returns-then-text-second c).After-lead_of-low))

@@ -1,7 +1,7 @@
 -- `write_definitions::write_body` meets its contract.
-use Rattle.cursor.proofs.Chain.{kept, last}
+use Rattle.cursor.proofs.Chain.{begins, kept, last}
 use Rattle.write_definitions.proofs.Shapes.{body_is}
 use Rattle.write_definitions.proofs.write_body.Goals as goal
 
 pub returns : goal.returns
-returns c = last _ _ (kept _ _ _ (kept _ _ _ (body_is _ _ _ _ _ _ _ _ _) _ _ c.put-opened.ensures) _ _ c.write_members-members.ensures) _ _ c.put.ensures
+returns c = last c.put-2.ensures (kept c.write_members.ensures _ (kept c.put.ensures _ (begins (body_is _ _ _ _ _ _ _ _ _))))

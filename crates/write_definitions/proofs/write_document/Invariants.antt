@@ -1,11 +1,13 @@
--- `write_definitions::write_document` meets its contract.
-use Rattle.write_fields.proofs.Rounds.{Going}
-use Rattle.write_definitions.specs.Onto.{document_from}
-use Rattle.ast.specs.Records.{comment_width, node_width, room}
+-- `write_definitions::write_document` meets its contract. The invariant: the turns left, from here, make what all of them make.
+use Prim.Native.Nat.{◌-◌}
+use Rattle.cursor.specs.Writes.{source}
+use Rattle.cursor.proofs.Chain.{Left}
+use Rattle.write_definitions.specs.Onto.{document_from, document_out}
 use Rattle.write_definitions.proofs.write_document.Given as goal
 
-abbrev pub invariant-loop-left : goal.invariant-loop-left
-invariant-loop-left l = Going (document_from l.text l.nodes (room node_width l.nodes) l.comments (room comment_width l.comments) l.indent (room node_width l.nodes)) (document_from l.text l.nodes (room node_width l.nodes) l.comments (room comment_width l.comments) l.indent l.left) l.initial.now l.initial.out l.now l.out
-
-abbrev pub decreases-loop-left : goal.decreases-loop-left
-decreases-loop-left l = l.left
+abbrev pub invariant-loop : goal.invariant-loop
+invariant-loop l =
+    let s = l.fn.w in
+    let x = source s in
+    Left (document_out x.text x.nodes x.count x.comments x.total x.indent s.at s.out.now) s
+    (document_from x.text x.nodes x.count x.comments x.total x.indent (l.count - l.counter) l.w.at l.w.out.now) l.w

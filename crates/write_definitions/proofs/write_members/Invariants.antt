@@ -1,11 +1,14 @@
--- `write_definitions::write_members` meets its contract.
-use Rattle.write_fields.proofs.Rounds.{Going}
+-- `write_definitions::write_members` meets its contract. The invariant: the turns left, from here, make what all of them make.
+use Prim.Native.Nat.{◌-◌}
+use Rattle.ast.specs.KindNumber.{number_of}
+use Rattle.cursor.specs.Writes.{source}
+use Rattle.cursor.proofs.Chain.{Left}
 use Rattle.write_definitions.specs.Onto.{members_from}
-use Rattle.ast.specs.Records.{comment_width, node_width, room}
 use Rattle.write_definitions.proofs.write_members.Given as goal
 
-abbrev pub invariant-loop-left : goal.invariant-loop-left
-invariant-loop-left l = Going (members_from l.text l.nodes (room node_width l.nodes) l.comments (room comment_width l.comments) l.indent l.kind (room node_width l.nodes)) (members_from l.text l.nodes (room node_width l.nodes) l.comments (room comment_width l.comments) l.indent l.kind l.left) l.initial.now l.initial.out l.now l.out
-
-abbrev pub decreases-loop-left : goal.decreases-loop-left
-decreases-loop-left l = l.left
+abbrev pub invariant-loop : goal.invariant-loop
+invariant-loop l =
+    let s = l.fn.w in
+    let x = source s in
+    Left (members_from x.text x.nodes x.count x.comments x.total x.indent (number_of l.kind) x.count s.at s.out.now) s
+    (members_from x.text x.nodes x.count x.comments x.total x.indent (number_of l.kind) (l.end - l.counter) l.w.at l.w.out.now) l.w

@@ -2,8 +2,8 @@
 use Rattle.write_fields.proofs.Shapes.{no_value, value_unless}
 use Rattle.write_fields.proofs.has_value.Goals as goal
 
-pub returns-then-parent_at-owner : goal.returns-then-parent_at-owner
-returns-then-parent_at-owner c = no_value _ _ _ _ c.parent_at.ensures c.if-parent_at-owner.true
+pub returns-then-parent-owner : goal.returns-then-parent-owner
+returns-then-parent-owner c = value_unless _ _ _ _ c.parent.ensures c.if-parent-owner.true c.is.ensures
 
-pub returns : goal.returns
-returns c = value_unless _ _ _ _ c.parent_at.ensures c.if-parent_at-owner.false c.kind_at.ensures
+pub returns-else-parent-owner : goal.returns-else-parent-owner
+returns-else-parent-owner c = no_value _ _ _ _ c.parent.ensures c.if-parent-owner.false

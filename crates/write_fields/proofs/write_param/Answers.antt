@@ -1,7 +1,7 @@
 -- `write_fields::write_param` meets its contract.
-use Rattle.cursor.proofs.Chain.{kept, last}
+use Rattle.cursor.proofs.Chain.{begins, kept, last}
 use Rattle.write_fields.proofs.Shapes.{param_is}
 use Rattle.write_fields.proofs.write_param.Goals as goal
 
 pub returns : goal.returns
-returns c = last _ _ (kept _ _ _ (kept _ _ _ (kept _ _ _ (param_is _ _ _ _ _ _ _) _ _ (c.pass_comments-noted.ensures _)) _ _ (c.pass_node.ensures _)) _ _ c.write_field_head-head.ensures) _ _ (c.pass_below.ensures _)
+returns c = last c.pass_below.ensures (kept c.write_field_head.ensures _ (kept c.pass_node.ensures _ (kept c.pass_comments.ensures _ (begins (param_is _ _ _ _ _ _ _)))))

@@ -1,39 +1,36 @@
--- `write_fields::write_params` meets its contract.
-use mathlib.Core.Path.{ap, ◌∙◌}
-use native.Mathlib.Omega.{arith}
-use Rattle.cursor.proofs.Chain.{kept, ends, yes, no, yes_by, no_by, about}
-use Rattle.write_fields.proofs.Rounds.{starts, params_is, params_turn, params_over}
-use Rattle.write_fields.specs.Onto.{is_of}
+-- `write_fields::write_params` meets its contract. The invariant: the turns left, from here, make what all of them make.
+use mathlib.Core.Path.{refl, ap, ◌∙◌}
 use Rattle.ast.specs.Records.{node_width, room}
+use Rattle.cursor.proofs.Chain.{counted, turn, over, kept, ends, when, unless, kinded, numbered}
+use Rattle.write_fields.specs.Onto.{is_of, params_from, params_out}
+use Rattle.write_fields.proofs.write_params.Goals.{then-not-is-via-then-not-is, then-not-is-via-else-not-is+then-not-is_of}
 use Rattle.write_fields.proofs.write_params.Goals as goal
 
-pub loop-left-init : goal.loop-left-init
-unfolding room node_width
-loop-left-init c = starts _ _ _
+pub loop-init : goal.loop-init
+unfolding params_out room node_width
+loop-init c = counted (params_from _ _ _ _ _ _ _) _ _ refl refl
 
-pub shape_of-out-then-kind_at-ne-FIELD : goal.shape_of-out-then-kind_at-ne-FIELD
-shape_of-out-then-kind_at-ne-FIELD c = c.loop-left.invariant.long
+pub returns-then-not-is : goal.returns-then-not-is
+unfolding params_from
+returns-then-not-is c =
+    let v = c.loop.invariant in
+    let here = turn (params_from _ _ _ _ _ _ _) _ _ c.loop-test.true v in
+    elim c.then-not-is.branch [
+      | then-not-is-via-then-not-is w ↦ ends (unless _ _ _ _ (kinded v _ c.is.ensures) w.if-not-is.true here)
+      | then-not-is-via-else-not-is+then-not-is_of w ↦
+          ends
+          (unless _ _ _ _ (w.is_of.ensures ∙ ap (is_of _) (numbered v _ w.number.ensures)) w.if-not-is_of.true (when _ _ _ _ (kinded v _ c.is.ensures) w.if-not-is.false here))
+    ]
 
-pub returns-then-kind_at-ne-FIELD : goal.returns-then-kind_at-ne-FIELD
-returns-then-kind_at-ne-FIELD c = ends _ _ _ (no _ _ _ _ _ (about _ _ _ _ _ _ (params_turn _ _ _ _ _ _ _ _ _ _ _ (params_is _ _ _ _ _ _ _ _ ∙ c.loop-left.invariant.goes) c.loop-left-test.true) c.kind_at.ensures) c.if-kind_at-ne-FIELD.true)
-
-pub shape_of-out-then-not-is_of : goal.shape_of-out-then-not-is_of
-shape_of-out-then-not-is_of c = c.loop-left.invariant.long
-
-pub returns-then-not-is_of : goal.returns-then-not-is_of
-returns-then-not-is_of c = ends _ _ _ (no_by _ _ _ _ _ (yes _ _ _ _ _ (about _ _ _ _ _ _ (params_turn _ _ _ _ _ _ _ _ _ _ _ (params_is _ _ _ _ _ _ _ _ ∙ c.loop-left.invariant.goes) c.loop-left-test.true) c.kind_at.ensures) c.if-kind_at-ne-FIELD.false) (c.is_of.ensures ∙ ap (is_of _) c.number_at.ensures) c.if-not-is_of.true)
-
-pub overflow_sub-left : goal.overflow_sub-left
-overflow_sub-left c = omega (arith, c.loop-left-test.true)
-
-pub loop-left-smaller : goal.loop-left-smaller
-loop-left-smaller c = omega (arith, c.loop-left-test.true)
-
-pub loop-left-preserved : goal.loop-left-preserved
-loop-left-preserved c = record { goes = kept _ _ _ (kept _ _ _ (yes_by _ _ _ _ _ (yes _ _ _ _ _ (about _ _ _ _ _ _ (params_turn _ _ _ _ _ _ _ _ _ _ _ c.loop-left.invariant.goes c.loop-left-test.true) c.kind_at.ensures) c.if-kind_at-ne-FIELD.false) (c.is_of.ensures ∙ ap (is_of _) c.number_at.ensures) c.if-not-is_of.false) _ _ c.put_comma-parted.ensures) _ _ c.write_param-now.ensures; long = c.write_param-now.auto.out ∙ c.put_comma-parted.auto.out ∙ c.loop-left.invariant.long }
-
-pub shape_of-out : goal.shape_of-out
-shape_of-out c = c.loop-left.invariant.long
+pub loop-preserved : goal.loop-preserved
+unfolding params_from
+loop-preserved c =
+    let v = c.loop.invariant in
+    kept c.write_param.ensures _
+    (kept c.put_comma.ensures _
+    (when _ _ _ _ (c.is_of.ensures ∙ ap (is_of _) (numbered v _ c.number.ensures)) c.if-not-is_of.false
+    (when _ _ _ _ (kinded v _ c.is.ensures) c.if-not-is.false (turn (params_from _ _ _ _ _ _ _) _ _ c.loop-test.true v))))
 
 pub returns : goal.returns
-returns c = ends _ _ _ (params_over _ _ _ _ _ _ _ _ _ _ _ (params_is _ _ _ _ _ _ _ _ ∙ c.loop-left.invariant.goes) c.loop-left-test.false)
+unfolding params_from
+returns c = ends (over (params_from _ _ _ _ _ _ _) _ _ c.loop-test.false c.loop.invariant)

@@ -1,12 +1,13 @@
--- `write_fields::write_params` meets its contract.
-use Rattle.write_fields.proofs.Rounds.{Going}
-use mathlib.Core.Bool.{true}
-use Rattle.write_fields.specs.Onto.{params_from}
-use Rattle.ast.specs.Records.{comment_width, node_width, room}
+-- `write_fields::write_params` meets its contract. The invariant: the turns left, from here, make what all of them make.
+use Prim.Native.Nat.{◌-◌}
+use Rattle.cursor.specs.Writes.{source}
+use Rattle.cursor.proofs.Chain.{Left}
+use Rattle.write_fields.specs.Onto.{params_from, params_out}
 use Rattle.write_fields.proofs.write_params.Given as goal
 
-abbrev pub invariant-loop-left : goal.invariant-loop-left
-invariant-loop-left l = Going (params_from l.text l.nodes (room node_width l.nodes) l.comments (room comment_width l.comments) l.thrown true (room node_width l.nodes)) (params_from l.text l.nodes (room node_width l.nodes) l.comments (room comment_width l.comments) l.thrown l.first l.left) l.initial.now l.initial.out l.now l.out
-
-abbrev pub decreases-loop-left : goal.decreases-loop-left
-decreases-loop-left l = l.left
+abbrev pub invariant-loop : goal.invariant-loop
+invariant-loop l =
+    let s = l.fn.w in
+    let x = source s in
+    Left (params_out x.text x.nodes x.count x.comments x.total l.thrown s.at s.out.now) s
+    (params_from x.text x.nodes x.count x.comments x.total l.thrown l.first (l.end - l.counter) l.w.at l.w.out.now) l.w

@@ -7,8 +7,8 @@ use Rattle.token.specs.declared.Token.TheVariants as T
 use Rattle.lexer.specs.Location.{pass}
 use Rattle.lexer.proofs.location.pass_block.Given as goal
 
-abbrev pub invariant-loop-i : goal.invariant-loop-i
-invariant-loop-i l = (l.i ≤ length l.comment) × (l.now.at ≡ l.initial.now.at + l.i) × (l.now ≡ pass (take l.i l.comment) T.BlockComment [] l.initial.now)
+abbrev pub invariant-loop-byte : goal.invariant-loop-byte
+invariant-loop-byte l = (l.byte-index ≤ length l.comment) × (l.now.at ≡ l.initial.now.at + l.byte-index) × (l.now ≡ pass (take l.byte-index l.comment) T.BlockComment [] l.initial.now)
 
-abbrev pub decreases-loop-i : goal.decreases-loop-i
-decreases-loop-i l = length l.comment - l.i
+abbrev pub decreases-loop-byte : goal.decreases-loop-byte
+decreases-loop-byte l = length l.comment - l.byte-index

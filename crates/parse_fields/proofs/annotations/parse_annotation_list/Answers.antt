@@ -24,17 +24,17 @@ shape_of-rest-then-found-eq-RIGHT_PAREN c = c.loop-parent.invariant.long
 pub returns-then-found-eq-RIGHT_PAREN : goal.returns-then-found-eq-RIGHT_PAREN
 returns-then-found-eq-RIGHT_PAREN c = λ u. last _ _ _ _ _ (closes _ _ _ _ _ (turn _ _ _ _ _ (skip_rests _ false) (annotation_falls _ _ _) _ _ _ _ _ _ _ (annotation_list_is _ _ _ _ _ _ ∙ c.loop-parent.invariant.goes u) (skip_one _ _ _ _ _ _ c.skip-found.ensures)) c.if-found-eq-RIGHT_PAREN.true) (c.take.ensures _ _)
 
-pub parse_annotation-read-requires : goal.parse_annotation-read-requires
-parse_annotation-read-requires c = c.requires
+pub parse_annotation-requires : goal.parse_annotation-requires
+parse_annotation-requires c = c.requires
 
-pub shape_of-rest-in_default : goal.shape_of-rest-in_default
-shape_of-rest-in_default c = c.parse_annotation-read.auto.rest ∙ c.loop-parent.invariant.long
+pub shape_of-rest-in_err-state : goal.shape_of-rest-in_err-state
+shape_of-rest-in_err-state c = c.parse_annotation.auto.rest ∙ c.loop-parent.invariant.long
 
-pub returns-in_default : goal.returns-in_default
-returns-in_default c = λ u. off _ _ _ (stays _ _ _ _ _ (turn _ _ _ _ _ (skip_rests _ false) (annotation_falls _ _ _) _ _ _ _ _ _ _ (annotation_list_is _ _ _ _ _ _ ∙ c.loop-parent.invariant.goes u) (skip_one _ _ _ _ _ _ c.skip-found.ensures)) c.if-found-eq-RIGHT_PAREN.false) _ _ _ _ _ (c.parse_annotation-read.ensures u) c.in_default.is _ _
+pub returns-in_err-state : goal.returns-in_err-state
+returns-in_err-state c = λ u. off _ _ _ (stays _ _ _ _ _ (turn _ _ _ _ _ (skip_rests _ false) (annotation_falls _ _ _) _ _ _ _ _ _ _ (annotation_list_is _ _ _ _ _ _ ∙ c.loop-parent.invariant.goes u) (skip_one _ _ _ _ _ _ c.skip-found.ensures)) c.if-found-eq-RIGHT_PAREN.false) _ _ _ _ _ (c.parse_annotation.ensures u) c.in_err-state.was c.from_residual.ensures _ _
 
 pub loop-parent-smaller : goal.loop-parent-smaller
-loop-parent-smaller c = turn_falls _ _ _ (skip_rests _ false) (annotation_falls _ _ _) _ _ _ _ _ _ _ _ _ _ (skip_one _ _ _ _ _ [] c.skip-found.ensures) (c.parse_annotation-read.ensures []) c.in-On.is
+loop-parent-smaller c = turn_falls _ _ _ (skip_rests _ false) (annotation_falls _ _ _) _ _ _ _ _ _ _ _ _ _ (skip_one _ _ _ _ _ [] c.skip-found.ensures) (c.parse_annotation.ensures []) c.in_ok-state.was
 
 pub loop-parent-preserved : goal.loop-parent-preserved
-loop-parent-preserved c = record { goes = λ u. on _ _ _ (stays _ _ _ _ _ (turn _ _ _ _ _ (skip_rests _ false) (annotation_falls _ _ _) _ _ _ _ _ _ _ (c.loop-parent.invariant.goes u) (skip_one _ _ _ _ _ _ c.skip-found.ensures)) c.if-found-eq-RIGHT_PAREN.false) _ _ _ _ (c.parse_annotation-read.ensures u) c.in-On.is; long = c.parse_annotation-read.auto.rest ∙ c.loop-parent.invariant.long }
+loop-parent-preserved c = record { goes = λ u. on _ _ _ (stays _ _ _ _ _ (turn _ _ _ _ _ (skip_rests _ false) (annotation_falls _ _ _) _ _ _ _ _ _ _ (c.loop-parent.invariant.goes u) (skip_one _ _ _ _ _ _ c.skip-found.ensures)) c.if-found-eq-RIGHT_PAREN.false) _ _ _ _ (c.parse_annotation.ensures u) c.in_ok-state.was; long = c.parse_annotation.auto.rest ∙ c.loop-parent.invariant.long }

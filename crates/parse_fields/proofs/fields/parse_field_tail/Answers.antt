@@ -4,14 +4,14 @@ use Rattle.steps.proofs.Chain.{last, off, on}
 use Rattle.parse_fields.proofs.Forms.{field_tail_is}
 use Rattle.parse_fields.proofs.fields.parse_field_tail.Goals as goal
 
-pub shape_of-rest-in_default : goal.shape_of-rest-in_default
-shape_of-rest-in_default c = c.parse_default-read.auto.rest
+pub shape_of-rest-in_err-state : goal.shape_of-rest-in_err-state
+shape_of-rest-in_err-state c = c.parse_default.auto.rest
 
-pub returns-in_default : goal.returns-in_default
-returns-in_default c = λ u. off _ _ _ (field_tail_is _ _ _ _ _ _) _ _ _ _ _ (c.parse_default-read.ensures u) c.in_default.is _ _
+pub returns-in_err-state : goal.returns-in_err-state
+returns-in_err-state c = λ u. off _ _ _ (field_tail_is _ _ _ _ _ _) _ _ _ _ _ (c.parse_default.ensures u) c.in_err-state.was c.from_residual.ensures _ _
 
 pub shape_of-rest : goal.shape_of-rest
-shape_of-rest c = c.parse_annotations.auto.rest ∙ c.parse_default-read.auto.rest
+shape_of-rest c = c.parse_annotations.auto.rest ∙ c.parse_default.auto.rest
 
 pub returns : goal.returns
-returns c = λ u. last _ _ _ _ _ (on _ _ _ (field_tail_is _ _ _ _ _ _) _ _ _ _ (c.parse_default-read.ensures u) c.in-On.is) (c.parse_annotations.ensures u)
+returns c = λ u. last _ _ _ _ _ (on _ _ _ (field_tail_is _ _ _ _ _ _) _ _ _ _ (c.parse_default.ensures u) c.in_ok-state.was) (c.parse_annotations.ensures u)

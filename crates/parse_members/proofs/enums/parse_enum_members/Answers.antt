@@ -9,11 +9,11 @@ use Rattle.parse_fields.proofs.Forms.{members_is}
 use Rattle.parse_members.proofs.Forms.{enum_members_is}
 use Rattle.parse_members.proofs.enums.parse_enum_members.Goals as goal
 
-pub expect-opened-requires : goal.expect-opened-requires
-expect-opened-requires c = c.requires
+pub expect-requires : goal.expect-requires
+expect-requires c = c.requires
 
-pub returns-in_default : goal.returns-in_default
-returns-in_default c = off _ _ _ (enum_members_is _ _ _ _ _ _ ∙ members_is _ _ _ _ _ _ _) _ _ _ _ _ (c.expect-opened.ensures _ _) c.in_default.is _ _
+pub returns-in_err-inside : goal.returns-in_err-inside
+returns-in_err-inside c = off _ _ _ (enum_members_is _ _ _ _ _ _ ∙ members_is _ _ _ _ _ _ _) _ _ _ _ _ (c.expect.ensures _ _) c.in_err-inside.was c.from_residual.ensures _ _
 
 pub loop-parent-init : goal.loop-parent-init
 loop-parent-init c = loop_starts _ _ _ _ _ _ _ _
@@ -34,22 +34,22 @@ pub shape_of-comments-then-found-eq-RIGHT_BRACE : goal.shape_of-comments-then-fo
 shape_of-comments-then-found-eq-RIGHT_BRACE c = c.skip_comments-found.auto.comments ∙ c.loop-parent.invariant.wide
 
 pub returns-then-found-eq-RIGHT_BRACE : goal.returns-then-found-eq-RIGHT_BRACE
-returns-then-found-eq-RIGHT_BRACE c = last _ _ _ _ _ (closes _ _ _ _ _ (turn _ _ _ _ _ (skip_member_rests _) (member_falls _ _ _) _ _ _ _ _ _ _ (on _ _ _ (enum_members_is _ _ _ _ _ _ ∙ members_is _ _ _ _ _ _ _) _ _ _ _ (c.expect-opened.ensures _ _) c.in-On.is ∙ c.loop-parent.invariant.goes) (skip_member _ _ _ _ _ _ _ c.skip-over.ensures (c.skip_comments-found.ensures _))) c.if-found-eq-RIGHT_BRACE.true) (c.take.ensures _ _)
+returns-then-found-eq-RIGHT_BRACE c = last _ _ _ _ _ (closes _ _ _ _ _ (turn _ _ _ _ _ (skip_member_rests _) (member_falls _ _ _) _ _ _ _ _ _ _ (on _ _ _ (enum_members_is _ _ _ _ _ _ ∙ members_is _ _ _ _ _ _ _) _ _ _ _ (c.expect.ensures _ _) c.in_ok-inside.was ∙ c.loop-parent.invariant.goes) (skip_member _ _ _ _ _ _ _ c.skip-over.ensures (c.skip_comments-found.ensures _))) c.if-found-eq-RIGHT_BRACE.true) (c.take.ensures _ _)
 
-pub parse_enum_member-read-requires : goal.parse_enum_member-read-requires
-parse_enum_member-read-requires c = c.requires
+pub parse_enum_member-requires : goal.parse_enum_member-requires
+parse_enum_member-requires c = c.requires
 
-pub shape_of-rest-in_default-read : goal.shape_of-rest-in_default-read
-shape_of-rest-in_default-read c = c.parse_enum_member-read.auto.rest ∙ c.loop-parent.invariant.long
+pub shape_of-rest-in_err-state : goal.shape_of-rest-in_err-state
+shape_of-rest-in_err-state c = c.parse_enum_member.auto.rest ∙ c.loop-parent.invariant.long
 
-pub shape_of-comments-in_default-read : goal.shape_of-comments-in_default-read
-shape_of-comments-in_default-read c = c.parse_enum_member-read.auto.comments ∙ c.skip_comments-found.auto.comments ∙ c.loop-parent.invariant.wide
+pub shape_of-comments-in_err-state : goal.shape_of-comments-in_err-state
+shape_of-comments-in_err-state c = c.parse_enum_member.auto.comments ∙ c.skip_comments-found.auto.comments ∙ c.loop-parent.invariant.wide
 
-pub returns-in_default-read : goal.returns-in_default-read
-returns-in_default-read c = off _ _ _ (stays _ _ _ _ _ (turn _ _ _ _ _ (skip_member_rests _) (member_falls _ _ _) _ _ _ _ _ _ _ (on _ _ _ (enum_members_is _ _ _ _ _ _ ∙ members_is _ _ _ _ _ _ _) _ _ _ _ (c.expect-opened.ensures _ _) c.in-On.is ∙ c.loop-parent.invariant.goes) (skip_member _ _ _ _ _ _ _ c.skip-over.ensures (c.skip_comments-found.ensures _))) c.if-found-eq-RIGHT_BRACE.false) _ _ _ _ _ c.parse_enum_member-read.ensures c.in_default-read.is _ _
+pub returns-in_err-state : goal.returns-in_err-state
+returns-in_err-state c = off _ _ _ (stays _ _ _ _ _ (turn _ _ _ _ _ (skip_member_rests _) (member_falls _ _ _) _ _ _ _ _ _ _ (on _ _ _ (enum_members_is _ _ _ _ _ _ ∙ members_is _ _ _ _ _ _ _) _ _ _ _ (c.expect.ensures _ _) c.in_ok-inside.was ∙ c.loop-parent.invariant.goes) (skip_member _ _ _ _ _ _ _ c.skip-over.ensures (c.skip_comments-found.ensures _))) c.if-found-eq-RIGHT_BRACE.false) _ _ _ _ _ c.parse_enum_member.ensures c.in_err-state.was c.from_residual-in_err-state.ensures _ _
 
 pub loop-parent-smaller : goal.loop-parent-smaller
-loop-parent-smaller c = turn_falls _ _ _ (skip_member_rests _) (member_falls _ _ _) _ _ _ _ _ _ _ _ _ _ (skip_member _ _ _ _ _ _ _ c.skip-over.ensures (c.skip_comments-found.ensures _)) c.parse_enum_member-read.ensures c.in-On-read.is
+loop-parent-smaller c = turn_falls _ _ _ (skip_member_rests _) (member_falls _ _ _) _ _ _ _ _ _ _ _ _ _ (skip_member _ _ _ _ _ _ _ c.skip-over.ensures (c.skip_comments-found.ensures _)) c.parse_enum_member.ensures c.in_ok-state.was
 
 pub loop-parent-preserved : goal.loop-parent-preserved
-loop-parent-preserved c = record { goes = on _ _ _ (stays _ _ _ _ _ (turn _ _ _ _ _ (skip_member_rests _) (member_falls _ _ _) _ _ _ _ _ _ _ c.loop-parent.invariant.goes (skip_member _ _ _ _ _ _ _ c.skip-over.ensures (c.skip_comments-found.ensures _))) c.if-found-eq-RIGHT_BRACE.false) _ _ _ _ c.parse_enum_member-read.ensures c.in-On-read.is; long = c.parse_enum_member-read.auto.rest ∙ c.loop-parent.invariant.long; wide = c.parse_enum_member-read.auto.comments ∙ c.skip_comments-found.auto.comments ∙ c.loop-parent.invariant.wide }
+loop-parent-preserved c = record { goes = on _ _ _ (stays _ _ _ _ _ (turn _ _ _ _ _ (skip_member_rests _) (member_falls _ _ _) _ _ _ _ _ _ _ c.loop-parent.invariant.goes (skip_member _ _ _ _ _ _ _ c.skip-over.ensures (c.skip_comments-found.ensures _))) c.if-found-eq-RIGHT_BRACE.false) _ _ _ _ c.parse_enum_member.ensures c.in_ok-state.was; long = c.parse_enum_member.auto.rest ∙ c.loop-parent.invariant.long; wide = c.parse_enum_member.auto.comments ∙ c.skip_comments-found.auto.comments ∙ c.loop-parent.invariant.wide }

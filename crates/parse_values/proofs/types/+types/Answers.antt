@@ -7,26 +7,26 @@ use Rattle.steps.proofs.Chain.{on, off, last, node, given, ends, fails, yes, no}
 use Rattle.parse_values.proofs.ContainerForms.{contained_is, complex_is, type_is}
 use Rattle.parse_values.proofs.types.+types.Goals as goal
 
-pub parse_complex_type-expect-opened-requires : goal.parse_complex_type-expect-opened-requires
-parse_complex_type-expect-opened-requires t c = c.requires
+pub parse_complex_type-expect-requires : goal.parse_complex_type-expect-requires
+parse_complex_type-expect-requires t c = c.requires
 
-pub parse_complex_type-returns-in_default : goal.parse_complex_type-returns-in_default
-parse_complex_type-returns-in_default t c = λ u. off _ _ _ (complex_is _ _ _ _ _ _ _ _) _ _ _ _ _ (given (expect_in _ 38 2) _ _ _ _ _ c.open.ensures (c.expect-opened.ensures _ _)) c.in_default.is _ _
+pub parse_complex_type-returns-in_err-inner : goal.parse_complex_type-returns-in_err-inner
+parse_complex_type-returns-in_err-inner t c = λ u. off _ _ _ (complex_is _ _ _ _ _ _ _ _) _ _ _ _ _ (given (expect_in _ 38 2) _ _ _ _ _ c.open.ensures (c.expect.ensures _ _)) c.in_err-inner.was c.from_residual.ensures _ _
 
-pub parse_complex_type-parse_contained-read-requires : goal.parse_complex_type-parse_contained-read-requires
-parse_complex_type-parse_contained-read-requires t c = (omega arith, c.requires)
+pub parse_complex_type-parse_contained-requires : goal.parse_complex_type-parse_contained-requires
+parse_complex_type-parse_contained-requires t c = (omega arith, c.requires)
 
-pub parse_complex_type-returns-in_default-read : goal.parse_complex_type-returns-in_default-read
-parse_complex_type-returns-in_default-read t c = λ u. off _ _ _ (on _ _ _ (complex_is _ _ _ _ _ _ _ _) _ _ _ _ (given (expect_in _ 38 2) _ _ _ _ _ c.open.ensures (c.expect-opened.ensures _ _)) c.in-On.is) _ _ _ _ _ (c.parse_contained-read.ensures _) c.in_default-read.is _ _
+pub parse_complex_type-returns-in_err-behind : goal.parse_complex_type-returns-in_err-behind
+parse_complex_type-returns-in_err-behind t c = λ u. off _ _ _ (on _ _ _ (complex_is _ _ _ _ _ _ _ _) _ _ _ _ (given (expect_in _ 38 2) _ _ _ _ _ c.open.ensures (c.expect.ensures _ _)) c.in_ok-inner.was) _ _ _ _ _ (c.parse_contained.ensures _) c.in_err-behind.was c.from_residual-in_err-behind.ensures _ _
 
-pub parse_complex_type-expect-closed-requires : goal.parse_complex_type-expect-closed-requires
-parse_complex_type-expect-closed-requires t c = c.requires
+pub parse_complex_type-expect-requires-2 : goal.parse_complex_type-expect-requires-2
+parse_complex_type-expect-requires-2 t c = c.requires
 
-pub parse_complex_type-returns-in_default-closed : goal.parse_complex_type-returns-in_default-closed
-parse_complex_type-returns-in_default-closed t c = λ u. off _ _ _ (on _ _ _ (on _ _ _ (complex_is _ _ _ _ _ _ _ _) _ _ _ _ (given (expect_in _ 38 2) _ _ _ _ _ c.open.ensures (c.expect-opened.ensures _ _)) c.in-On.is) _ _ _ _ (c.parse_contained-read.ensures _) c.in-On-read.is) _ _ _ _ _ (c.expect-closed.ensures _ _) c.in_default-closed.is _ _
+pub parse_complex_type-returns-in_err-state : goal.parse_complex_type-returns-in_err-state
+parse_complex_type-returns-in_err-state t c = λ u. off _ _ _ (on _ _ _ (on _ _ _ (complex_is _ _ _ _ _ _ _ _) _ _ _ _ (given (expect_in _ 38 2) _ _ _ _ _ c.open.ensures (c.expect.ensures _ _)) c.in_ok-inner.was) _ _ _ _ (c.parse_contained.ensures _) c.in_ok-behind.was) _ _ _ _ _ (c.expect-2.ensures _ _) c.in_err-state.was c.from_residual-in_err-state.ensures _ _
 
 pub parse_complex_type-returns : goal.parse_complex_type-returns
-parse_complex_type-returns t c = λ u. node _ _ _ _ _ _ _ _ _ _ _ (on _ _ _ (on _ _ _ (on _ _ _ (complex_is _ _ _ _ _ _ _ _) _ _ _ _ (given (expect_in _ 38 2) _ _ _ _ _ c.open.ensures (c.expect-opened.ensures _ _)) c.in-On.is) _ _ _ _ (c.parse_contained-read.ensures _) c.in-On-read.is) _ _ _ _ (c.expect-closed.ensures _ _) c.in-On-closed.is) c.put_node.ensures
+parse_complex_type-returns t c = λ u. node _ _ _ _ _ _ _ _ _ _ _ (on _ _ _ (on _ _ _ (on _ _ _ (complex_is _ _ _ _ _ _ _ _) _ _ _ _ (given (expect_in _ 38 2) _ _ _ _ _ c.open.ensures (c.expect.ensures _ _)) c.in_ok-inner.was) _ _ _ _ (c.parse_contained.ensures _) c.in_ok-behind.was) _ _ _ _ (c.expect-2.ensures _ _) c.in_ok-state.was) c.put_node.ensures
 
 pub parse_contained-parse_type-first-requires : goal.parse_contained-parse_type-first-requires
 parse_contained-parse_type-first-requires t c = (omega arith, c.requires)
@@ -34,38 +34,38 @@ parse_contained-parse_type-first-requires t c = (omega arith, c.requires)
 pub parse_contained-returns-then-kind-ne-MAP : goal.parse_contained-returns-then-kind-ne-MAP
 parse_contained-returns-then-kind-ne-MAP t c = λ u. last _ _ _ _ _ (no _ _ _ _ _ (contained_is _ _ _ _ _ _) c.if-kind-ne-MAP.true) (c.parse_type-first.ensures _)
 
-pub parse_contained-returns-in_default : goal.parse_contained-returns-in_default
-parse_contained-returns-in_default t c = λ u. off _ _ _ (yes _ _ _ _ _ (contained_is _ _ _ _ _ _) c.if-kind-ne-MAP.false) _ _ _ _ _ (c.parse_type-first.ensures _) c.in_default.is _ _
+pub parse_contained-returns-in_err-key : goal.parse_contained-returns-in_err-key
+parse_contained-returns-in_err-key t c = λ u. off _ _ _ (yes _ _ _ _ _ (contained_is _ _ _ _ _ _) c.if-kind-ne-MAP.false) _ _ _ _ _ (c.parse_type-first.ensures _) c.in_err-key.was c.from_residual.ensures _ _
 
-pub parse_contained-expect-comma-requires : goal.parse_contained-expect-comma-requires
-parse_contained-expect-comma-requires t c = c.requires
+pub parse_contained-expect-requires : goal.parse_contained-expect-requires
+parse_contained-expect-requires t c = c.requires
 
-pub parse_contained-returns-in_default-comma : goal.parse_contained-returns-in_default-comma
-parse_contained-returns-in_default-comma t c = λ u. off _ _ _ (on _ _ _ (yes _ _ _ _ _ (contained_is _ _ _ _ _ _) c.if-kind-ne-MAP.false) _ _ _ _ (c.parse_type-first.ensures _) c.in-On.is) _ _ _ _ _ (c.expect-comma.ensures _ _) c.in_default-comma.is _ _
+pub parse_contained-returns-in_err-value : goal.parse_contained-returns-in_err-value
+parse_contained-returns-in_err-value t c = λ u. off _ _ _ (on _ _ _ (yes _ _ _ _ _ (contained_is _ _ _ _ _ _) c.if-kind-ne-MAP.false) _ _ _ _ (c.parse_type-first.ensures _) c.in_ok-key.was) _ _ _ _ _ (c.expect.ensures _ _) c.in_err-value.was c.from_residual-in_err-value.ensures _ _
 
 pub parse_contained-parse_type-requires : goal.parse_contained-parse_type-requires
 parse_contained-parse_type-requires t c = (omega arith, c.requires)
 
 pub parse_contained-returns : goal.parse_contained-returns
-parse_contained-returns t c = λ u. last _ _ _ _ _ (on _ _ _ (on _ _ _ (yes _ _ _ _ _ (contained_is _ _ _ _ _ _) c.if-kind-ne-MAP.false) _ _ _ _ (c.parse_type-first.ensures _) c.in-On.is) _ _ _ _ (c.expect-comma.ensures _ _) c.in-On-comma.is) (c.parse_type.ensures _)
+parse_contained-returns t c = λ u. last _ _ _ _ _ (on _ _ _ (on _ _ _ (yes _ _ _ _ _ (contained_is _ _ _ _ _ _) c.if-kind-ne-MAP.false) _ _ _ _ (c.parse_type-first.ensures _) c.in_ok-key.was) _ _ _ _ (c.expect.ensures _ _) c.in_ok-value.was) (c.parse_type.ensures _)
 
-pub parse_type-take-taken-requires : goal.parse_type-take-taken-requires
-parse_type-take-taken-requires t c = c.requires
+pub parse_type-take-requires : goal.parse_type-take-requires
+parse_type-take-requires t c = c.requires
 
-pub parse_type-returns-in_default : goal.parse_type-returns-in_default
-parse_type-returns-in_default t c = λ u. off _ _ _ (type_is _ _ _ _ _ _ _ refl refl) _ _ _ _ _ (c.take-taken.ensures _ _) c.in_default.is _ _
+pub parse_type-returns-in_err-state : goal.parse_type-returns-in_err-state
+parse_type-returns-in_err-state t c = λ u. off _ _ _ (type_is _ _ _ _ _ _ _ refl refl) _ _ _ _ _ (c.take.ensures _ _) c.in_err-state.was c.from_residual.ensures _ _
 
 pub parse_type-returns-then-leaf-ne0 : goal.parse_type-returns-then-leaf-ne0
-parse_type-returns-then-leaf-ne0 t c = λ u. ends _ _ _ _ _ (no _ _ _ _ _ (on _ _ _ (type_is _ _ _ _ _ _ _ c.leaf_type-leaf.ensures refl) _ _ _ _ (c.take-taken.ensures _ _) c.in-On.is) c.if-leaf-ne0.true) (c.put_leaf.ensures _)
+parse_type-returns-then-leaf-ne0 t c = λ u. ends _ _ _ _ _ (no _ _ _ _ _ (on _ _ _ (type_is _ _ _ _ _ _ _ c.leaf_type-leaf.ensures refl) _ _ _ _ (c.take.ensures _ _) c.in_ok-state.was) c.if-leaf-ne0.true) (c.put_leaf.ensures _)
 
 pub parse_type-returns-then-container-eq0 : goal.parse_type-returns-then-container-eq0
-parse_type-returns-then-container-eq0 t c = λ u. fails _ _ _ _ _ _ (yes _ _ _ _ _ (yes _ _ _ _ _ (on _ _ _ (type_is _ _ _ _ _ _ _ c.leaf_type-leaf.ensures c.container_type-container.ensures) _ _ _ _ (c.take-taken.ensures _ _) c.in-On.is) c.if-leaf-ne0.false) c.if-container-eq0.true) (c.refuse.ensures _ _)
+parse_type-returns-then-container-eq0 t c = λ u. fails _ _ _ _ _ _ (yes _ _ _ _ _ (yes _ _ _ _ _ (on _ _ _ (type_is _ _ _ _ _ _ _ c.leaf_type-leaf.ensures c.container_type-container.ensures) _ _ _ _ (c.take.ensures _ _) c.in_ok-state.was) c.if-leaf-ne0.false) c.if-container-eq0.true) (c.refuse.ensures _ _)
 
 pub parse_type-returns-then-depth-eq0 : goal.parse_type-returns-then-depth-eq0
-parse_type-returns-then-depth-eq0 t c = λ u. fails _ _ _ _ _ _ (yes _ _ _ _ _ (no _ _ _ _ _ (yes _ _ _ _ _ (on _ _ _ (type_is _ _ _ _ _ _ _ c.leaf_type-leaf.ensures c.container_type-container.ensures) _ _ _ _ (c.take-taken.ensures _ _) c.in-On.is) c.if-leaf-ne0.false) c.if-container-eq0.false) c.if-depth-eq0.true) (c.refuse-then-depth-eq0.ensures _ _)
+parse_type-returns-then-depth-eq0 t c = λ u. fails _ _ _ _ _ _ (yes _ _ _ _ _ (no _ _ _ _ _ (yes _ _ _ _ _ (on _ _ _ (type_is _ _ _ _ _ _ _ c.leaf_type-leaf.ensures c.container_type-container.ensures) _ _ _ _ (c.take.ensures _ _) c.in_ok-state.was) c.if-leaf-ne0.false) c.if-container-eq0.false) c.if-depth-eq0.true) (c.refuse-then-depth-eq0.ensures _ _)
 
 pub parse_type-parse_complex_type-requires : goal.parse_type-parse_complex_type-requires
 parse_type-parse_complex_type-requires t c = (omega (arith, c.if-depth-eq0.false), c.requires)
 
 pub parse_type-returns : goal.parse_type-returns
-parse_type-returns t c = λ u. last _ _ _ _ _ (no _ _ _ _ _ (no _ _ _ _ _ (yes _ _ _ _ _ (on _ _ _ (type_is _ _ _ _ _ _ _ c.leaf_type-leaf.ensures c.container_type-container.ensures) _ _ _ _ (c.take-taken.ensures _ _) c.in-On.is) c.if-leaf-ne0.false) c.if-container-eq0.false) c.if-depth-eq0.false) (c.parse_complex_type.ensures _)
+parse_type-returns t c = λ u. last _ _ _ _ _ (no _ _ _ _ _ (no _ _ _ _ _ (yes _ _ _ _ _ (on _ _ _ (type_is _ _ _ _ _ _ _ c.leaf_type-leaf.ensures c.container_type-container.ensures) _ _ _ _ (c.take.ensures _ _) c.in_ok-state.was) c.if-leaf-ne0.false) c.if-container-eq0.false) c.if-depth-eq0.false) (c.parse_complex_type.ensures _)

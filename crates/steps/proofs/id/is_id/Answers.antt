@@ -1,16 +1,21 @@
 -- `steps::id::is_id` meets its contract.
-use mathlib.Core.Path.{◌∙◌}
-use Rattle.steps.proofs.Digits.{id_none, id_minus, id_plus, id_plain}
+use mathlib.Core.Path.{sym, ap, ◌∙◌}
+use native.Mathlib.Omega.{arith}
+use borrow.Author.Tests.{eqb-true, eqb-false}
+use Rattle.std.specs.Option.{is_some}
+use Rattle.steps.proofs.Digits.{id_none, id_minus, id_plus, id_plain, some_by}
 use Rattle.steps.proofs.id.is_id.Goals as goal
 
-pub returns-then-bytes-eq0 : goal.returns-then-bytes-eq0
-returns-then-bytes-eq0 c = id_none _ c.if-bytes-eq0.true
+pub returns-then-is_empty : goal.returns-then-is_empty
+returns-then-is_empty c = id_none _ (eqb-true _ _ (sym c.is_empty.ensures ∙ c.if-is_empty.true))
 
-pub returns-then-bytes-eq45 : goal.returns-then-bytes-eq45
-returns-then-bytes-eq45 c = id_minus _ c.if-bytes-eq0.false c.if-bytes-eq45.true
+pub returns-in-45 : goal.returns-in-45
+returns-in-45 c = id_minus _ (eqb-false _ _ (sym c.is_empty.ensures ∙ c.if-is_empty.false)) c.in-45.is
 
-pub returns-then-bytes-eq43 : goal.returns-then-bytes-eq43
-returns-then-bytes-eq43 c = c.is_number.ensures ∙ id_plus _ c.if-bytes-eq0.false c.if-bytes-eq43.true
+pub returns-in-43 : goal.returns-in-43
+returns-in-43 c = c.is_some.ensures ∙ ap is_some c.number.ensures ∙ some_by _ _ ∙ id_plus _ (eqb-false _ _ (sym c.is_empty.ensures ∙ c.if-is_empty.false)) c.in-43.is
 
-pub returns : goal.returns
-returns c = c.is_number-2.ensures ∙ id_plain _ c.if-bytes-eq0.false c.if-bytes-eq45.false c.if-bytes-eq43.false
+pub returns-in_default : goal.returns-in_default
+returns-in_default c =
+    c.is_some-in_default.ensures ∙ ap is_some c.number-in_default.ensures ∙ some_by _ _
+    ∙ id_plain _ (eqb-false _ _ (sym c.is_empty.ensures ∙ c.if-is_empty.false)) (λ e. omega arith) (λ e. omega arith)

@@ -8,9 +8,6 @@ use Rattle.steps.proofs.state.State.own.Goals as goal
 pub loop-i-init : goal.loop-i-init
 loop-i-init c = (omega arith, refl, own_start _ _ _ _)
 
-pub overflow_add-i : goal.overflow_add-i
-overflow_add-i c = omega (arith, c.struct_known-2-1.given)
-
 pub loop-i-preserved : goal.loop-i-preserved
 loop-i-preserved c =
     let l = c.loop-i in

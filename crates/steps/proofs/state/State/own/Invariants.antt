@@ -7,8 +7,5 @@ use Rattle.steps.proofs.state.State.own.Given as goal
 
 abbrev pub invariant-loop-i : goal.invariant-loop-i
 invariant-loop-i l =
-    (l.i ≤ l.count) × (length l.comments ≡ length l.initial.comments)
-    × (owners l.first l.count l.owner l.initial.comments ≡ owners (l.first + l.i) (l.count - l.i) l.owner l.comments)
-
-abbrev pub decreases-loop-i : goal.decreases-loop-i
-decreases-loop-i l = l.count - l.i
+    (l.i ≤ l.self.waiting) × (length l.comments ≡ length l.initial.comments)
+    × (owners l.first l.self.waiting l.owner l.initial.comments ≡ owners (l.first + l.i) (l.self.waiting - l.i) l.owner l.comments)

@@ -1,0 +1,12 @@
+-- `Writer::pass_below` meets its contract. The invariant: the turns left, from here, lead where all of them lead.
+use Prim.Native.Nat.{◌-◌}
+use Rattle.cursor.specs.Onto.{pass_below_from, pass_below}
+use Rattle.cursor.specs.Writes.{source}
+use Rattle.cursor.proofs.Chain.{Left}
+use Rattle.cursor.proofs.Writer.pass_below.Given as goal
+
+abbrev pub invariant-loop : goal.invariant-loop
+invariant-loop l =
+    let s = l.fn.self in
+    let x = source s in
+    Left (pass_below x.nodes x.count l.owner s.at s.out.now) s (pass_below_from x.nodes x.count l.owner (l.end - l.counter) l.self.at l.self.out.now) l.self
