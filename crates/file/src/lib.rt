@@ -24,9 +24,9 @@ fn request_of(numbers: &[u32; 4]) -> Request
     ensures { ask result.prints result.nodes result.comments result.out
         ≡ ask (not (eqb (get_or numbers.now 0 0) 0)) (get_or numbers.now 1 0) (get_or numbers.now 2 0) (get_or numbers.now 3 0) }
 {
-    let [kind, nodes, comments, out] = *numbers;
+    let [prints, nodes, comments, out] = *numbers;
     Request {
-        prints: kind != 0,
+        prints: prints != 0,
         nodes: nodes as usize,
         comments: comments as usize,
         out: out as usize,
