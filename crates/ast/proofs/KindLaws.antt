@@ -2,12 +2,13 @@
 --     kind_number   a kind is the one at its number
 --     number_kind   and at no other
 --     kind_none     past the last there is none
-use mathlib.Core.Path.{◌≡◌, refl, sym}
+--     number_some, number_unlike   no kind has the number 0; different ones have different ones
+use mathlib.Core.Path.{◌≡◌, refl, sym, ap, ◌∙◌}
 use mathlib.Core.Bool.{Bool, true, false}
 use Prim.Native.Nat.{ℕ, zero, suc, ◌<◌, ◌≤◌}
 use native.Mathlib.Omega.{arith}
 use lib.Dec.{T, eqb, ltb, eqb→eq}
-use borrow.Author.Tests.{ltb-true, ltb-false}
+use borrow.Author.Tests.{ltb-true, ltb-false, ne_eqb}
 use Rattle.std.specs.Prelude.{Option, None, Some, length, get_or, List, [], ◌∷◌}
 use Rattle.token.proofs.Every.{every, at}
 use Rattle.ast.specs.KindNumber.{number_of, kinds, kind_of}
@@ -82,3 +83,19 @@ number_kind n k e = go (ltb n 34) refl
     go : (b : Bool) → ltb n 34 ≡ b → n ≡ number_of k
     go true f = here n k (ltb-true n 34 f) e
     go false f = let g : kind_of n ≡ None = kinds_end n (ltb-false n 34 f) in cc
+
+-- no kind has the number 0
+pub number_some : (k : Kind) → eqb (number_of k) 0 ≡ false
+number_some k =
+    ne_eqb (number_of k) 0 λ e.
+    let z : kind_of (number_of k) ≡ Some k = kind_number k in
+    let n : kind_of (number_of k) ≡ None = ap kind_of e ∙ kind_none 0 (λ h. absurd (omega (arith, h))) in
+    cc
+
+-- and different kinds have different ones
+pub number_unlike : (k j : Kind) → (k ≡ j → ⊥) → eqb (number_of k) (number_of j) ≡ false
+number_unlike k j h =
+    ne_eqb (number_of k) (number_of j) λ e.
+    h
+    (let z : Some k ≡ Some j = sym (kind_number k) ∙ ap kind_of e ∙ kind_number j in
+    cc)

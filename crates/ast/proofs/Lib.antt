@@ -6,3 +6,4 @@ pub mod Maps
 pub mod MovedRows
 pub mod KindLaws
 pub mod Largest
+pub mod ClearLaws

@@ -83,6 +83,11 @@ kinds =
 unfoldable pub kind_of : ℕ → Option Kind
 kind_of n = get_or kinds n None
 
+-- the number of a kind, 0 of none
+unfoldable pub number_or_none : Option Kind → ℕ
+number_or_none None = 0
+number_or_none (Some k) = number_of k
+
 -- the kind with this number, or an error with a number that no kind has
 abbrev pub Decodes : ℕ → Result Kind UnknownKind → Type 0
 Decodes n (Ok k) = kind_of n ≡ Some k

@@ -8,3 +8,4 @@ pub mod Largest
 pub mod Column
 pub mod Move
 pub mod KindNumber
+pub mod Clear

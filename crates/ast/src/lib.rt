@@ -5,7 +5,8 @@ pub mod column;
 pub mod flag;
 pub mod kind;
 
-ghost use Rattle.std.specs.Prelude.{◌≡◌};
+ghost use Rattle.std.specs.Prelude.{◌≡◌, ◌≤◌, length};
+ghost use Rattle.ast.specs.Clear.{Cleared};
 ghost use Rattle.ast.specs.Largest.{bump};
 
 // The numbers of a comment record, and of a node record.
@@ -24,4 +25,15 @@ pub fn bump(n: u32) -> u32
     ensures { result ≡ bump n }
 {
     n.saturating_add(1)
+}
+
+// A list's values become the default one from an index on.
+pub fn clear<T: Copy + Default>(list: &mut [T], from: usize)
+    requires { from ≤ length list.old }
+    ensures { Cleared T.is_default from list.old list.new }
+{
+    let value = T::default();
+    for slot in &mut list[from..] {
+        *slot = value;
+    }
 }

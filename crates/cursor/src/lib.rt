@@ -1,7 +1,7 @@
 // Where the printer stands, the records that it prints from, and the output.
 #![tactic(auto)]
 
-ghost use Rattle.std.specs.Prelude.{◌≡◌, ◌++◌, ◌-◌, ◌≤◌, ◌<◌, length, take, drop, replicate, get_or, eqb};
+ghost use Rattle.std.specs.Prelude.{◌≡◌, ◌++◌, ◌≤◌, ◌<◌, length, drop, get_or, eqb};
 ghost use Rattle.ast.specs.Column as C;
 ghost use Rattle.ast.specs.KindNumber.{number_of, kind_of};
 ghost use Rattle.ast.specs.Records.{comment_width, node_width, room};
@@ -42,14 +42,6 @@ pub fn copy(out: &mut [u8], bytes: &[u8])
         out[i] = bytes[i];
         i += 1;
     }
-}
-
-// Bytes become 0 from an index on.
-pub fn clear(bytes: &mut [u8], from: usize)
-    requires { from ≤ length bytes.old }
-    ensures { bytes.new ≡ take from bytes.old ++ replicate (length bytes.old - from) 0 }
-{
-    bytes[from..].fill(0);
 }
 
 // The parent of a record in a table of records of so many numbers; none behind the last one.

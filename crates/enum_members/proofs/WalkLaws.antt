@@ -3,22 +3,20 @@
 --     member_none, member_noted, member_written     member_at
 --     put_off, put_on                               put
 --     child_other, child_member, root_other, root_enum   number_child, number_definition
---     wipe_part, wipe_all                           clear, refuse
---     finish_off, finish_short, finish_on           finish
+--     wipe_part, wipe_all                           what ast::clear leaves, behind an index and of a whole list
 use mathlib.Core.Path.{◌≡◌, refl}
-use mathlib.Core.List.{List, append-nil}
+use mathlib.Core.List.{List, ◌++◌}
 use Prim.Native.Nat.{ℕ, ◌-◌, ◌≤◌, ◌<◌}
-use native.Mathlib.Omega.{arith}
 use borrow.Author.Tests.{lt-ltb, le-ltb}
-use lib.ListN.{length, take, drop, set, replicate, length-drop, drop_of_length-le}
-use lib.Seq.{take_all, set_out}
-use borrow.Rule.Slice.PartMut.{put_mid}
+use lib.ListN.{length, take, replicate, set}
+use lib.Seq.{set_out}
 use lib.IntN.{ℤ, pos, suc_ℤ}
 use Rattle.std.specs.Prelude.{Option, Some, None}
 use Rattle.number.specs.Value.{integer, hex, fitted}
 use Rattle.ast.specs.declared.kind.Kind.TheVariants as V
 use Rattle.ast.specs.KindNumber.{kind_of}
 use Rattle.ast.specs.Largest.{bump}
+use Rattle.ast.proofs.ClearLaws.{cleared_by, cleared_all}
 use Rattle.records.specs.Table.{kind_in, start_at, end_at, past_at, part, part_at}
 use Rattle.records.specs.Each.{on, off}
 use Rattle.records.proofs.KindTests.{kind_yes, kind_no}
@@ -86,17 +84,15 @@ module _ (nodes : List ℕ) (n : ℕ) (w : Walk) (list : List ℤ) where
   unfolding put_in
   put_on x = refl
 
--- ---- clear
+-- ---- finish, refuse
 
-pub wipe_part : (n : ℕ) (l ys : List ℤ) → n ≤ length l → ys ≡ replicate (length (take (length l - n) (drop n l))) (pos 0) → put_mid n (length l - n) l ys ≡ wiped n l
+pub wipe_part : (n : ℕ) (z : ℤ) (l l' : List ℤ) → z ≡ pos 0 → l' ≡ take n l ++ replicate (length l - n) z → l' ≡ wiped n l
 unfolding wiped
-wipe_part n l ys h e =
-    let s : length (drop n l) ≤ length l - n = omega (arith, length-drop n l) in
-    rw (e, take_all (length l - n) (drop n l) s, length-drop n l, drop_of_length-le (drop n l) {i = length l - n} s, append-nil)
+wipe_part n z l l' e h = cleared_by (pos 0) n l l' (z, e, h)
 
-pub wipe_all : (l : List ℤ) → wiped 0 l ≡ cleared l
-unfolding wiped cleared
-wipe_all l = let n : length l - 0 ≡ length l = omega arith in rw n
+pub wipe_all : (z : ℤ) (l l' : List ℤ) → z ≡ pos 0 → l' ≡ replicate (length l - 0) z → l' ≡ cleared l
+unfolding cleared
+wipe_all z l l' e h = cleared_all (pos 0) l l' (z, e, h)
 
 -- what the steps need
 pub ruleset steps = (value_hex, value_integer, member_none, member_noted, member_written, put_off, put_on, child_other, child_member, root_other, root_enum)

@@ -22,10 +22,10 @@ pub data Stop : Type 0 where
 abbrev pub W : Type 0
 W = State → Step State Stop
 
--- what the code's answer and the list afterwards show
-abbrev pub shows : Result Walk Part → List ℤ → Step State Stop
-shows (Ok w) list = on (at w list)
-shows (Err a) list = off (stop a.start a.end list)
+-- what the code's answer, the walk and the list afterwards show
+abbrev pub shows : Result (Unit {0}) Part → Walk → List ℤ → Step State Stop
+shows (Ok u) w list = on (at w list)
+shows (Err a) w list = off (stop a.start a.end list)
 
 -- a number goes behind those so far; 28 at the name of the member at record n
 unfoldable pub put_in : List ℕ → ℕ → Option ℤ → W

@@ -1,12 +1,14 @@
 // The number behind each enum member, from a node table.
 #![tactic(auto)]
 
-ghost use Rattle.std.specs.Prelude.{◌≡◌, List, ◌≤◌, length, set};
+ghost use Rattle.std.specs.Prelude.{◌≡◌, List, set};
 ghost use Rattle.lexer.specs.Refusal.{number_of};
 ghost use Rattle.ast.specs.Ast.{Definition};
-ghost use Rattle.records.specs.Table.{File};
+ghost use Rattle.records.specs.Each.{each_in};
+ghost use Rattle.records.specs.Table.{File, siblings};
 ghost use Rattle.enum_members.specs.Numbers.{told, listing, member_numbers};
-ghost use Rattle.enum_members.specs.Walk.{at, shows, value_at, member_at, put_in, child_in, members_in, definition_in, definitions_in, wiped, refusing, finished};
+ghost use Rattle.enum_members.specs.Walk.{at, shows, value_at, member_at, put_in, child_in, members_in, definition_in, definitions_in, refusing, finished};
+ghost use Rattle.enum_members.specs.Walks.{Walks};
 
 use ast::bump;
 use ast::kind::Kind;
@@ -20,11 +22,13 @@ pub struct Walk {
     pub members: u32,
 }
 
-// A text and its node table.
-#[derive(Clone, Copy)]
-struct Source<'a> {
+// A text and its node table, the list that is lent, and where the walk stands.
+#[derive(Drop)]
+struct Walker<'a> {
     text: &'a [u8],
     nodes: Nodes<'a>,
+    list: &'a mut [i32],
+    at: Walk,
 }
 
 // A number behind those so far, where the list holds it.
@@ -40,11 +44,11 @@ fn store(list: &mut [i32], at: u32, number: i32)
 }
 
 // Each step leads on, or to the name of a member whose number is outside the range.
-#[tactic(auto, using(crate::proofs::WalkLaws::steps, records::proofs::EachLaws::walks), unfolding(records::specs::Each::each_in, crate::specs::Walk::members_in, crate::specs::Walk::definitions_in))]
-impl Source<'_> {
+#[tactic(auto, using(crate::proofs::WalkLaws::steps))]
+impl Walker<'_> {
     // The number that is written at a record.
-    fn value_at(self, n: u32) -> Option<i32>
-        ensures { result ≡ value_at self.entry.text.now self.entry.nodes.0.now n }
+    fn value_at(&self, n: u32) -> Option<i32>
+        ensures { result ≡ value_at self.now.text.now self.now.nodes.0.now n }
     {
         let bytes = self.nodes.part(n).bytes(self.text);
         if self.nodes.kind(n) == Some(Kind::Hex) {
@@ -55,87 +59,72 @@ impl Source<'_> {
     }
 
     // The number of the member at a record: its own, else the one ahead.
-    fn member_at(self, n: u32, ahead: Option<i32>) -> Option<i32>
-        ensures { result ≡ member_at self.entry.text.now self.entry.nodes.0.now n ahead }
+    fn member_at(&self, n: u32) -> Option<i32>
+        ensures { result ≡ member_at self.now.text.now self.now.nodes.0.now n self.now.at.ahead }
     {
         let second = self.nodes.past(bump(n));
         if self.nodes.past(n) <= second || self.nodes.kind(second) == Some(Kind::Annotations) {
-            return ahead;
+            return self.at.ahead;
         }
         self.value_at(second)
     }
 
     // A member's number goes into the list; one outside the range leads to the member's name.
-    fn put(self, n: u32, number: Option<i32>, walk: Walk, list: &mut [i32]) -> Result<Walk, Part>
-        ensures { shows result list.new ≡ put_in self.entry.nodes.0.now n number (at walk list.old) }
+    fn put(&mut self, n: u32, number: Option<i32>) -> Result<(), Part>
+        ensures { Walks (λ x w l. put_in x.nodes n number (at w l)) result self.old self.new }
     {
         let Some(number) = number else {
             return Err(self.nodes.part(bump(n)));
         };
-        store(list, walk.members, number);
-        Ok(Walk {
+        store(self.list, self.at.members, number);
+        self.at = Walk {
             ahead: number::successor(number),
-            members: bump(walk.members),
-        })
+            members: bump(self.at.members),
+        };
+        Ok(())
     }
 
     // A child of an enum.
-    fn number_child(self, n: u32, walk: Walk, list: &mut [i32]) -> Result<Walk, Part>
-        ensures { shows result list.new ≡ child_in self.entry.text.now self.entry.nodes.0.now n (at walk list.old) }
+    fn number_child(&mut self, n: u32) -> Result<(), Part>
+        ensures { Walks (λ x w l. child_in x.text x.nodes n (at w l)) result self.old self.new }
     {
         if self.nodes.kind(n) != Some(Kind::EnumMember) {
-            return Ok(walk);
+            return Ok(());
         }
-        let number = self.member_at(n, walk.ahead);
-        self.put(n, number, walk, list)
+        let number = self.member_at(n);
+        self.put(n, number)
     }
 
     // The members of the enum at a record, behind those before.
-    fn number_enum(self, n: u32, before: Walk, list: &mut [i32]) -> Result<Walk, Part>
-        ensures { shows result list.new ≡ members_in self.entry.text.now self.entry.nodes.0.now n before.members list.old }
+    fn number_enum(&mut self, n: u32) -> Result<(), Part>
+        ensures { Walks (λ x w. members_in x.text x.nodes n w.members) result self.old self.new }
     {
-        let mut walk = Walk {
-            ahead: Some(0),
-            ..before
-        };
+        self.at.ahead = Some(0);
         for child in self.nodes.children(n) {
-            walk = self.number_child(child, walk, list)?;
+            self.number_child(child)?;
         }
-        Ok(walk)
+        Ok(())
     }
 
     // A definition.
-    fn number_definition(self, n: u32, walk: Walk, list: &mut [i32]) -> Result<Walk, Part>
-        ensures { shows result list.new ≡ definition_in self.entry.text.now self.entry.nodes.0.now n (at walk list.old) }
+    fn number_definition(&mut self, n: u32) -> Result<(), Part>
+        ensures { Walks (λ x w l. definition_in x.text x.nodes n (at w l)) result self.old self.new }
     {
         if self.nodes.kind(n) != Some(Kind::Enum) {
-            return Ok(walk);
+            return Ok(());
         }
-        self.number_enum(n, walk, list)
+        self.number_enum(n)
     }
 
-    // All definitions.
-    fn number_definitions(self, count: u32, list: &mut [i32]) -> Result<Walk, Part>
-        ensures { shows result list.new ≡ definitions_in self.entry.text.now self.entry.nodes.0.now count list.old }
+    // So many definitions.
+    fn number_definitions(&mut self, count: u32) -> Result<(), Part>
+        ensures { Walks (λ x w l. each_in (definition_in x.text x.nodes) (siblings x.nodes count 0) (at w l)) result self.old self.new }
     {
-        let mut walk = Walk {
-            ahead: Some(0),
-            members: 0,
-        };
         for n in self.nodes.siblings(0, count) {
-            walk = self.number_definition(n, walk, list)?;
+            self.number_definition(n)?;
         }
-        Ok(walk)
+        Ok(())
     }
-}
-
-// The list's numbers become 0 from an index on.
-#[tactic(auto, using(crate::proofs::WalkLaws::wipe_part))]
-pub fn clear(list: &mut [i32], from: usize)
-    requires { from ≤ length list.old }
-    ensures { list.new ≡ wiped from list.old }
-{
-    list[from..].fill(0);
 }
 
 // Nothing is left in the list.
@@ -143,14 +132,14 @@ pub fn clear(list: &mut [i32], from: usize)
 fn refuse(refusal: Refusal, list: &mut [i32]) -> Result<u32, Refusal>
     ensures { told result list.new ≡ refusing (number_of refusal.kind) refusal.place refusal.length list.old }
 {
-    clear(list, 0);
+    ast::clear(list, 0);
     Err(refusal)
 }
 
 // What was walked, if the list holds it.
-#[tactic(auto, unfolding(lexer::specs::Refusal::said_by, crate::specs::Walk::finished))]
-fn finish(turn: Result<Walk, Part>, list: &mut [i32]) -> Result<u32, Refusal>
-    ensures { told result list.new ≡ finished (shows turn list.old) }
+#[tactic(auto, using(crate::proofs::WalkLaws::wipe_part), unfolding(lexer::specs::Refusal::said_by, crate::specs::Walk::finished))]
+fn finish(turn: Result<(), Part>, walk: Walk, list: &mut [i32]) -> Result<u32, Refusal>
+    ensures { told result list.new ≡ finished (shows turn walk list.old) }
 {
     match turn {
         Err(name) => {
@@ -161,7 +150,7 @@ fn finish(turn: Result<Walk, Part>, list: &mut [i32]) -> Result<u32, Refusal>
             };
             refuse(refusal, list)
         }
-        Ok(walk) if list.len() < walk.members as usize => {
+        Ok(()) if list.len() < walk.members as usize => {
             let refusal = Refusal {
                 kind: ErrorKind::NodesFull,
                 place: 0,
@@ -169,8 +158,8 @@ fn finish(turn: Result<Walk, Part>, list: &mut [i32]) -> Result<u32, Refusal>
             };
             refuse(refusal, list)
         }
-        Ok(walk) => {
-            clear(list, walk.members as usize);
+        Ok(()) => {
+            ast::clear(list, walk.members as usize);
             Ok(walk.members)
         }
     }
@@ -178,7 +167,6 @@ fn finish(turn: Result<Walk, Part>, list: &mut [i32]) -> Result<u32, Refusal>
 
 // Numbers the members of every enum of a text, from its node table: so many records. Answers how many members there are.
 // On any table it walks as `definitions_in` says; on the table of a text's definitions it answers with their numbers.
-#[tactic(auto, using(crate::proofs::Meant::walk_means))]
 pub fn number_members(
     text: &[u8],
     nodes: &[u32],
@@ -188,10 +176,16 @@ pub fn number_members(
     ensures walks { told result list.new ≡ finished (definitions_in text.now nodes.now count list.old) }
     ensures means { (ds : List Definition) → File text.now nodes.now count ds → told result list.new ≡ listing (member_numbers ds) list.old }
 {
-    let source = Source {
+    let mut walker = Walker {
         text,
         nodes: Nodes(nodes),
+        list,
+        at: Walk {
+            ahead: Some(0),
+            members: 0,
+        },
     };
-    let turn = source.number_definitions(count, list);
-    finish(turn, list)
+    let turn = walker.number_definitions(count);
+    let walk = walker.at;
+    finish(turn, walk, list)
 }

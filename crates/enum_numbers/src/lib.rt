@@ -7,10 +7,9 @@ ghost use Rattle.enum_numbers.specs.Numbering.{told, numbering};
 ghost use Rattle.enum_numbers.specs.Whole.{refusing, judged};
 
 use lexer::error::Refusal;
-use steps::table;
 
 // A refusal leaves nothing in either table or the list.
-#[tactic(auto, using(steps::proofs::Cells::wipe_all, enum_members::proofs::WalkLaws::wipe_all), unfolding(lexer::specs::Refusal::said_by, crate::specs::Whole::refusing))]
+#[tactic(auto, using(steps::proofs::Cells::cleared_of, enum_members::proofs::WalkLaws::wipe_all), unfolding(lexer::specs::Refusal::said_by, crate::specs::Whole::refusing))]
 fn refuse(
     refusal: Refusal,
     nodes: &mut [u32],
@@ -19,9 +18,9 @@ fn refuse(
 ) -> Result<u32, Refusal>
     ensures { told result nodes.new comments.new list.new ≡ refusing (number_of refusal.kind) refusal.place refusal.length nodes.old comments.old list.old }
 {
-    table::clear(nodes, 0);
-    table::clear(comments, 0);
-    enum_members::clear(list, 0);
+    ast::clear(nodes, 0);
+    ast::clear(comments, 0);
+    ast::clear(list, 0);
     Err(refusal)
 }
 

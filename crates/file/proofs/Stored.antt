@@ -17,7 +17,9 @@ use borrow.Author.Tests.{leb-true, leb-false, le-leb, lt-leb}
 use lib.ListN.{length, take, drop, get_or, replicate, length-append, length-take, length-replicate, drop_of_length-le}
 use lib.Seq.{take_all, take_at, length-take-le}
 use Rattle.lexer.specs.Outcome.{Outcome, accepted, refused}
+use Rattle.ast.specs.Clear.{Cleared}
 use Rattle.ast.specs.Records.{comment_width, node_width, node_rows, notes, room}
+use Rattle.ast.proofs.ClearLaws.{cleared_by}
 use Rattle.parser.specs.Read.{Answer}
 use Rattle.ast.specs.Ast.{Definition}
 use Rattle.parser.specs.Read.{fitted, Reading, reading}
@@ -86,12 +88,12 @@ module _ (p : Printed) (out : List ℕ) (f : File) where
     store_long l = rw (h, lt-leb q.bytes (length f.space) l)
 
     pub store_in : (copied space' : List ℕ) → q.bytes ≤ length f.space → q.bytes ≤ length out → copied ≡ take q.bytes out ++ drop (length (take q.bytes out)) f.space
-        → length copied ≡ length f.space → space' ≡ take q.bytes copied ++ replicate (length copied - q.bytes) 0 → file_of q.bytes space' ≡ kept_in (said p) out f
+        → length copied ≡ length f.space → Cleared (λ x. x ≡ 0) q.bytes copied space' → file_of q.bytes space' ≡ kept_in (said p) out f
     unfolding kept_in said_by W.written
     store_in copied space' l k e s w =
         let t : length (take q.bytes out) ≡ q.bytes = length-take-le q.bytes out k in
         let u : take q.bytes copied ≡ take q.bytes out = ap (take q.bytes) e ∙ take_at (take q.bytes out) (drop (length (take q.bytes out)) f.space) q.bytes t in
-        rw (h, le-leb q.bytes (length f.space) l, w, u, s, t)
+        rw (h, le-leb q.bytes (length f.space) l, cleared_by 0 q.bytes copied space' w, u, s, t)
 
 -- ---- print_file
 

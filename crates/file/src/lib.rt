@@ -56,7 +56,7 @@ fn store(space: &mut [u8], file: usize, printed: Printed, out: &[u8]) -> usize
         return file;
     }
     cursor::copy(space, &out[..bytes]);
-    cursor::clear(space, bytes);
+    ast::clear(space, bytes);
     bytes
 }
 

@@ -1,4 +1,5 @@
 pub mod Limit
+pub mod Message
 pub mod Error
 pub mod Outcome
 pub mod Cuts

@@ -83,6 +83,11 @@ impl Refusal {
 
 // What is wrong, and what to do where that is plain.
 impl fmt::Display for ErrorKind {
+    ghost use Rattle.std.specs.Prelude.{Some};
+    ghost use Rattle.lexer.specs.Message.{message};
+
+    ghost output = { λ kind. Some (message kind) };
+
     fn fmt<W: fmt::Write>(&self, f: &mut fmt::Formatter<W>) -> fmt::Result {
         f.write_str(match self {
             ErrorKind::UnrecognizedToken => {

@@ -54,12 +54,13 @@ pub fn next_token(text: &[u8], lexer: Lexer) -> Next
             return Next::End;
         }
         let k = scan::class_at(text, at);
-        if k == scan::BLANK {
+        if scan::MARK <= k {
+            if k != scan::BLANK {
+                return mark(k, from);
+            }
             from = location::behind(from, false);
         } else if scan::is_line_end(k) {
             from = location::behind(from, location::ends_line(text, at));
-        } else if scan::MARK <= k {
-            return mark(k, from);
         } else {
             let found = scan::scan_token(text, at);
             let Some((token, n)) = found else {

@@ -14,6 +14,11 @@ use std::{fmt, io};
 struct Numbers<'a>(&'a [u32]);
 
 impl fmt::Display for Numbers<'_> {
+    ghost use Rattle.std.specs.Prelude.{Some, codes, flat_map, ◌++◌};
+    ghost use Rattle.std.specs.Fmt.{decimal};
+
+    ghost output = { λ numbers. Some (flat_map (λ number. codes " " ++ decimal number) numbers.0.now) };
+
     fn fmt<W: fmt::Write>(&self, f: &mut fmt::Formatter<W>) -> fmt::Result {
         for number in self.0 {
             write!(f, " {number}")?;

@@ -15,7 +15,7 @@ use lib.Seq.{length-take-le, get_or-take, get_or-drop, get_or-append-add}
 use borrow.Rule.Slice.PartMut.{put_mid, post_of}
 use Rattle.steps.specs.Into.{wiped}
 use Rattle.move_tables.specs.Moves.{narrow_width}
-use Rattle.move_tables.specs.Walk.{Carries, Carried, Copies, Copied}
+use Rattle.move_tables.specs.Walk.{Carries, Carried, Copies, Copied, Placed}
 
 -- ---- 0 from an index on
 
@@ -96,12 +96,6 @@ module _ {t : List ℕ} {w v : ℕ} where
   copy_done h s = record { long = s.long; each = λ i j g k. s.each i j (omega arith) k }
 
 -- ---- the output
-
--- the first nine numbers of each record, and 0 past the records
-pub record Placed (t : List ℕ) (w v count : ℕ) (out mid : List ℕ) : Type 0 where
-  pub long : length mid ≡ length out
-  pub each : (i j : ℕ) → i < count → j < narrow_width → get_or mid (i * v + j) 0 ≡ get_or t (i * w + j) 0
-  pub past : (k : ℕ) → count * v ≤ k → k < length out → get_or mid k 0 ≡ 0
 
 pub placed : {t : List ℕ} {w v count : ℕ} {out first : List ℕ} (mid : List ℕ) → narrow_width ≤ v → count * v ≤ length out → Copied t w v count out first
     → mid ≡ wiped (count * v) first → Placed t w v count out mid

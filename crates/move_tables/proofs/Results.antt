@@ -20,10 +20,9 @@ use Rattle.ast.specs.Column.{Parent, Past}
 use Rattle.ast.specs.Records.{comment_width, node_width, no_parent, room, chunks, concat, filled}
 use Rattle.ast.proofs.Counts.{Wide, concat_width}
 use Rattle.move_tables.specs.Moves.{narrow_width, most_records, records, parents, past, bad_tenth, narrowed, widened}
-use Rattle.move_tables.specs.Walk.{parent_in, parents_from, lower_bad, writes, walk, Good}
+use Rattle.move_tables.specs.Walk.{parent_in, parents_from, lower_bad, writes, walk, Good, Placed}
 use Rattle.move_tables.proofs.Lists.{chunks_count}
 use Rattle.move_tables.proofs.Back.{narrowed_count, widened_count}
-use Rattle.move_tables.proofs.Copying.{Placed}
 use Rattle.move_tables.proofs.WalkLaws.{past_of, walked}
 
 pub behind : (w n : ℕ) (t : List ℕ) → drop w (drop (n * w) t) ≡ drop (suc n * w) t

@@ -1,10 +1,12 @@
 -- How the code goes through a table: parents by number, a record's ancestors by their parents, and which records end where. The contracts within
 -- this crate cite it; those of `widen` and `narrow` do not.
-use Rattle.std.specs.Prelude.{◌≡◌, true, cond, List, [], ◌∷◌, ℕ, zero, suc, ◌+◌, ◌*◌, ◌<◌, ◌≤◌, eqb, ltb, length, get_or, set}
-use Rattle.std.specs.Prelude.{None}
+use Rattle.std.specs.Prelude.{◌≡◌, true, cond, List, [], ◌∷◌, ℕ, zero, suc, ◌+◌, ◌*◌, ◌/◌, ◌<◌, ◌≤◌, eqb, ltb, length, get_or, set}
+use Rattle.std.specs.Prelude.{Option, Some, None, Ok, Err}
+use Rattle.lexer.specs.Error.{NodesFull, NotMovable}
+use Rattle.lexer.specs.Outcome.{refused}
 use Rattle.ast.specs.Column.{Parent, Past}
 use Rattle.ast.specs.Records.{node_width, no_parent}
-use Rattle.move_tables.specs.Moves.{narrow_width, most_records, among, from, bad_parent}
+use Rattle.move_tables.specs.Moves.{narrow_width, most_records, whole, records, among, from, bad_parent, first_bad_parent, into, Moved, told}
 
 -- ---- parents
 
@@ -88,3 +90,39 @@ pub record Copies (t : List ℕ) (w : ℕ) (out : List ℕ) (v count : ℕ) : Ty
 pub record Copied (t : List ℕ) (w v count : ℕ) (out out' : List ℕ) : Type 0 where
   pub long : length out' ≡ length out
   pub each : (i j : ℕ) → i < count → j < narrow_width → get_or out' (i * v + j) 0 ≡ get_or t (i * w + j) 0
+
+-- ---- the checks before a move, and what both moves lay
+
+-- where a table of w numbers a record is not movable: at the first record with a bad parent; at 0, for a bad length
+unfoldable pub unmovable : ℕ → List ℕ → Option ℕ
+unmovable w t = cond (whole w t) (first_bad_parent (records w t)) (Some 0)
+
+-- a movable length and good parents
+pub record Fine (w : ℕ) (t : List ℕ) : Type 0 where
+  pub fits : whole w t ≡ true
+  pub parents_good : first_bad_parent (records w t) ≡ None
+  pub good : Good w t (length t / w)
+
+-- how many records a movable table has, the output being as it was; or a refusal
+abbrev pub Checks : ℕ → List ℕ → Moved → List ℕ → List ℕ → Type 0
+Checks w t (Ok n) out out' = (n ≡ length t / w) × Fine w t × (out' ≡ out)
+Checks w t (Err r) out out' = (b : ℕ) × (unmovable w t ≡ Some b) × (told (Err r) out' ≡ into (refused NotMovable b 0) out)
+
+-- so many records, of w numbers in a table and of v in an output
+pub record Wholes (t : List ℕ) (w v count : ℕ) : Type 0 where
+  pub wide : narrow_width ≤ w
+  pub wide' : narrow_width ≤ v
+  pub short' : v ≤ node_width
+  pub there : count * w ≤ length t
+  pub few : count ≤ most_records
+
+-- the first nine numbers of each record, and 0 past the records
+pub record Placed (t : List ℕ) (w v count : ℕ) (out mid : List ℕ) : Type 0 where
+  pub long : length mid ≡ length out
+  pub each : (i j : ℕ) → i < count → j < narrow_width → get_or mid (i * v + j) 0 ≡ get_or t (i * w + j) 0
+  pub past : (k : ℕ) → count * v ≤ k → k < length out → get_or mid k 0 ≡ 0
+
+-- placed, if the output holds them; or a refusal
+abbrev pub Lays : List ℕ → ℕ → ℕ → ℕ → Moved → List ℕ → List ℕ → Type 0
+Lays t w v count (Ok n) out out' = (n ≡ count) × (count * v ≤ length out) × Placed t w v count out out'
+Lays t w v count (Err r) out out' = (length out < count * v) × (told (Err r) out' ≡ into (refused NodesFull 0 0) out)

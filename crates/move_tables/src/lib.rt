@@ -2,16 +2,16 @@
 // A record's ancestors are found by the parents, from the record before it up to its own parent: each record is passed once in a table, however deep.
 #![tactic(auto)]
 
-ghost use Rattle.std.specs.Prelude.{◌≡◌, List, [], ◌∷◌, ℕ, suc, ◌≤◌, ◌*◌, length};
+ghost use Rattle.std.specs.Prelude.{◌≡◌, Err, List, [], ◌∷◌, ℕ, suc, ◌<◌, ◌≤◌, ◌*◌, length};
 ghost use Rattle.lexer.specs.Outcome.{refused};
 ghost use Rattle.lexer.specs.Refusal.{number_of};
+ghost use Rattle.ast.specs.Column as C;
 ghost use Rattle.ast.specs.Records.{node_width, no_parent, chunks};
 ghost use Rattle.move_tables.specs.Moves.{narrow_width, among, bad_parent, bad_tenth, into, told, widens, narrows};
-ghost use Rattle.move_tables.specs.Walk.{parent_in, Holds, Stands, Passes, Good, Carries, Carried, Copies, Copied, Up, parents_from, ends, walk, writes, lower_bad};
+ghost use Rattle.move_tables.specs.Walk.{parent_in, Holds, Stands, Passes, Good, Carries, Carried, Copies, Copied, Up, parents_from, ends, walk, writes, lower_bad, Checks, Wholes, Lays};
 
 use ast::{NO_PARENT, NODE_WIDTH, column};
 use lexer::error::{ErrorKind, Refusal};
-use steps::table;
 
 // The numbers of a node record without its tenth: as many as a comment's.
 const NARROW_WIDTH: usize = ast::COMMENT_WIDTH;
@@ -22,11 +22,12 @@ pub const MOST_RECORDS: usize = 65536;
 // What a move answers: how many records, or a refusal at one.
 pub type Moved = Result<u32, Refusal>;
 
-fn refuse(kind: ErrorKind, place: u32, out: &mut [u32]) -> Moved
-    ensures { told result out.new ≡ into (refused (number_of kind) place 0) out.old }
+// A refusal, which leaves the output all 0.
+fn refuse(kind: ErrorKind, place: u32, out: &mut [u32]) -> Refusal
+    ensures { told (Err result) out.new ≡ into (refused (number_of kind) place 0) out.old }
 {
-    table::clear(out, 0);
-    Err(Refusal::at(kind, place))
+    ast::clear(out, 0);
+    Refusal::at(kind, place)
 }
 
 // The parent of a record.
@@ -160,27 +161,43 @@ fn copy(table: &[u32], old: usize, out: &mut [u32], new: usize, count: usize)
     }
 }
 
+// How many records a table of so many numbers each has, if it is movable; else a refusal at the first record that is not.
+fn movable(table: &[u32], width: usize, out: &mut [u32]) -> Moved
+    requires { C.Parent < width }
+    ensures { Checks width table.now result out.old out.new }
+{
+    let count = table.len() / width;
+    if table.len() % width != 0 || MOST_RECORDS < count {
+        return Err(refuse(ErrorKind::NotMovable, 0, out));
+    }
+    let records = count as u32;
+    if let Some(bad) = bad_parent(table, width, records) {
+        return Err(refuse(ErrorKind::NotMovable, bad, out));
+    }
+    Ok(records)
+}
+
+// The first nine numbers of each record, and 0 behind them, if the output holds so many records; the tenth ones are left.
+fn lay(table: &[u32], old: usize, out: &mut [u32], new: usize, records: u32) -> Moved
+    requires { Wholes table.now old new records }
+    ensures { Lays table.now old new records result out.old out.new }
+{
+    let count = records as usize;
+    let needed = count * new;
+    if out.len() < needed {
+        return Err(refuse(ErrorKind::NodesFull, 0, out));
+    }
+    copy(table, old, out, new, count);
+    ast::clear(out, needed);
+    Ok(records)
+}
+
 // From nine numbers a record to ten: the tenth is the record number just past the last descendant.
 pub fn widen(table: &[u32], out: &mut [u32]) -> Moved
     ensures { told result out.new ≡ widens table.now out.old }
 {
-    if table.len() % NARROW_WIDTH != 0 {
-        return refuse(ErrorKind::NotMovable, 0, out);
-    }
-    let count = table.len() / NARROW_WIDTH;
-    if MOST_RECORDS < count {
-        return refuse(ErrorKind::NotMovable, 0, out);
-    }
-    let records = count as u32;
-    let widened = count * NODE_WIDTH;
-    if let Some(bad) = bad_parent(table, NARROW_WIDTH, records) {
-        return refuse(ErrorKind::NotMovable, bad, out);
-    }
-    if out.len() < widened {
-        return refuse(ErrorKind::NodesFull, 0, out); // no room for ten numbers a record
-    }
-    copy(table, NARROW_WIDTH, out, NODE_WIDTH, count);
-    table::clear(out, widened);
+    let records = movable(table, NARROW_WIDTH, out)?;
+    lay(table, NARROW_WIDTH, out, NODE_WIDTH, records)?;
     write_pasts(table, out, records);
     Ok(records)
 }
@@ -189,25 +206,9 @@ pub fn widen(table: &[u32], out: &mut [u32]) -> Moved
 pub fn narrow(table: &[u32], out: &mut [u32]) -> Moved
     ensures { told result out.new ≡ narrows table.now out.old }
 {
-    if table.len() % NODE_WIDTH != 0 {
-        return refuse(ErrorKind::NotMovable, 0, out);
-    }
-    let count = table.len() / NODE_WIDTH;
-    if MOST_RECORDS < count {
-        return refuse(ErrorKind::NotMovable, 0, out);
-    }
-    let records = count as u32;
-    let narrowed = count * NARROW_WIDTH;
-    if let Some(bad) = bad_parent(table, NODE_WIDTH, records) {
-        return refuse(ErrorKind::NotMovable, bad, out);
-    }
+    let records = movable(table, NODE_WIDTH, out)?;
     if let Some(wrong) = bad_tenth(table, records) {
-        return refuse(ErrorKind::NotMovable, wrong, out);
+        return Err(refuse(ErrorKind::NotMovable, wrong, out));
     }
-    if out.len() < narrowed {
-        return refuse(ErrorKind::NodesFull, 0, out); // no room for nine
-    }
-    copy(table, NODE_WIDTH, out, NARROW_WIDTH, count);
-    table::clear(out, narrowed);
-    Ok(records)
+    lay(table, NODE_WIDTH, out, NARROW_WIDTH, records)
 }

@@ -12,6 +12,11 @@ use std::{fmt, io};
 struct Row<'a>(&'a [u32]);
 
 impl fmt::Display for Row<'_> {
+    ghost use Rattle.std.specs.Prelude.{Some};
+    ghost use Rattle.nodes.specs.Text.{row_text};
+
+    ghost output = { λ row. Some (row_text row.0.now) };
+
     fn fmt<W: fmt::Write>(&self, f: &mut fmt::Formatter<W>) -> fmt::Result {
         let [first, rest @ ..] = self.0 else {
             return Ok(());
@@ -56,6 +61,6 @@ fn write_reading(out: Stdout, text: &[u8]) -> io::Result<()> {
 
 fn main(rt: HostRuntime) -> io::Result<()> {
     let mut text: [u8; 8192] = [0; 8192];
-    let n = input::read_full(rt.stdin(), &mut text)?;
+    let n = input::read_full(&mut rt.stdin(), &mut text)?;
     write_reading(rt.stdout(), &text[..n])
 }

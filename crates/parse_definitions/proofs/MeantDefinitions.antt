@@ -59,6 +59,13 @@ use Rattle.parse_definitions.specs.Into.{
   own_record_in,
   define_in,
   include_in,
+  included_in,
+  scoped_name_in,
+  constant_in,
+  enum_body_in,
+  structure_body_in,
+  service_body_in,
+  definition_by,
   scope_in,
   namespace_in,
   typed_name_in,
@@ -132,8 +139,8 @@ module _ (text : List ℕ) (short : length text ≤ 65536) where
   module _ {i : ℕ} {fr : Frame} {f : Forest} {st : State} {t u : List ℕ} {s : St} (ks : List Token) (e : peek ks s ≡ true) (h : At text (suc i) st.next no_parent fr f st t u s) where
     include_m : (k : ℕ) (create : LOC → List Lexeme → Lexeme → Definition)
         → ((l : LOC) (c : List Lexeme) (n : Lexeme) → node k 0 l [] c (single (leaf 16 n)) ≡ definition_tree (create l c n))
-        → Meant (λ d. At text (suc i) st.next no_parent fr (f ⊕ single (definition_tree d))) (include_in text k st t u) (parse_include create s)
-    unfolding include_in parse_include define_in own_record_in node_in code owns opened
+        → Meant (λ d. At text (suc i) st.next no_parent fr (f ⊕ single (definition_tree d))) (include_in text st.next k st t u) (parse_include create s)
+    unfolding include_in included_in parse_include define_in own_record_in node_in code owns opened
     include_m k create tree =
         begin_m ks _ _ e h λ w st₁ t₁ u₁ s₁ h₁.
         bind_m (token_m text short T.StringLiteral 16 _ 12 h₁.at) λ n st₂ t₂ u₂ s₂ h₂.
@@ -142,8 +149,8 @@ module _ (text : List ℕ) (short : length text ≤ 65536) where
         ∙ ap (λ (x : Tree). f ⊕ single x) (tree (span (place w) (place n)) (waiting_of s) n))
         (finish_at k 0 (place w) st.loc.start [] (waiting_of s) h h₂.at (ap (λ (l : LOC). l.start) h₁.first.placed))))
 
-    namespace_m : Meant (λ d. At text (suc i) st.next no_parent fr (f ⊕ single (definition_tree d))) (namespace_in text st t u) (parse_namespace s)
-    unfolding namespace_in parse_namespace define_in own_record_in node_in code owns opened scope_in name_in name_tree definition_tree both single
+    namespace_m : Meant (λ d. At text (suc i) st.next no_parent fr (f ⊕ single (definition_tree d))) (namespace_in text st.next st t u) (parse_namespace s)
+    unfolding namespace_in scoped_name_in parse_namespace define_in own_record_in node_in code owns opened scope_in name_in name_tree definition_tree both single
     namespace_m =
         begin_m ks _ _ e h λ w st₁ t₁ u₁ s₁ h₁.
         grouped _ _ _
@@ -153,8 +160,8 @@ module _ (text : List ℕ) (short : length text ≤ 65536) where
         (regrown (ap (λ (l : LOC). f ⊕ single (node 3 0 (span (place w) l) [] (waiting_of s) (both (name_tree y) (name_tree n)))) h₃.there)
         (finish_at 3 0 (place w) st.loc.start [] (waiting_of s) h h₃.at (ap (λ (l : LOC). l.start) h₁.first.placed)))))
 
-    const_m : Meant (λ d. At text (suc i) st.next no_parent fr (f ⊕ single (definition_tree d))) (const_in text st t u) (parse_const s)
-    unfolding const_in parse_const define_in own_record_in code owns opened typed_name_in parse_type parse_value definition_tree both single
+    const_m : Meant (λ d. At text (suc i) st.next no_parent fr (f ⊕ single (definition_tree d))) (const_in text st.next st t u) (parse_const s)
+    unfolding const_in constant_in parse_const define_in own_record_in code owns opened typed_name_in parse_type parse_value definition_tree both single
     const_m =
         grouped _ _ _
         (begin_m ks _ _ e h λ w st₁ t₁ u₁ s₁ h₁.
@@ -170,7 +177,7 @@ module _ (text : List ℕ) (short : length text ≤ 65536) where
         (last_m (trivia_m text short _ (finish_at 4 0 (place w) st.loc.start [] (waiting_of s) h h₅ (ap (λ (l : LOC). l.start) h₁.first.placed))) λ x st₆ t₆ u₆ s₆ h₆.
         went (fewer (omega arith) h₆))))))))
 
-    typedef_m : Meant (λ d. At text (suc i) st.next no_parent fr (f ⊕ single (definition_tree d))) (typedef_in text st t u) (parse_typedef s)
+    typedef_m : Meant (λ d. At text (suc i) st.next no_parent fr (f ⊕ single (definition_tree d))) (typedef_in text st.next st t u) (parse_typedef s)
     unfolding typedef_in parse_typedef define_in own_record_in node_in code owns opened typed_name_in parse_type definition_tree both single
     typedef_m =
         begin_m ks _ _ e h λ w st₁ t₁ u₁ s₁ h₁.
@@ -181,8 +188,8 @@ module _ (text : List ℕ) (short : length text ≤ 65536) where
         (regrown (ap (λ (l : LOC). f ⊕ single (node 5 0 (span (place w) l) [] (waiting_of s) (both (type_tree y) (name_tree n)))) h₃.there)
         (finish_at 5 0 (place w) st.loc.start [] (waiting_of s) h h₃.at (ap (λ (l : LOC). l.start) h₁.first.placed)))))
 
-    enum_m : Meant (λ d. At text (suc i) st.next no_parent fr (f ⊕ single (definition_tree d))) (enum_in text st t u) (parse_enum s)
-    unfolding enum_in parse_enum define_in own_record_in node_in code owns opened enum_members_in
+    enum_m : Meant (λ d. At text (suc i) st.next no_parent fr (f ⊕ single (definition_tree d))) (enum_in text st.next st t u) (parse_enum s)
+    unfolding enum_in enum_body_in parse_enum define_in own_record_in node_in code owns opened enum_members_in
     enum_m =
         begin_m ks _ _ e h λ w st₁ t₁ u₁ s₁ h₁.
         grouped _ _ _
@@ -196,8 +203,8 @@ module _ (text : List ℕ) (short : length text ≤ 65536) where
         (finish_at 6 0 (place w) st.loc.start [] (waiting_of s) h h₄ (ap (λ (l : LOC). l.start) h₁.first.placed)))))))
 
     structure_m : (y : Structure)
-        → Meant (λ d. At text (suc i) st.next no_parent fr (f ⊕ single (definition_tree d))) (structure_in text (structure_kind y) st t u) (parse_structure y s)
-    unfolding structure_in parse_structure define_in own_record_in node_in code owns opened fields_in
+        → Meant (λ d. At text (suc i) st.next no_parent fr (f ⊕ single (definition_tree d))) (structure_in text st.next (structure_kind y) st t u) (parse_structure y s)
+    unfolding structure_in structure_body_in parse_structure define_in own_record_in node_in code owns opened fields_in
     structure_m y =
         begin_m ks _ _ e h λ w st₁ t₁ u₁ s₁ h₁.
         grouped _ _ _
@@ -221,8 +228,8 @@ module _ (text : List ℕ) (short : length text ≤ 65536) where
 
   service_m : {i : ℕ} {fr : Frame} {f : Forest} {st : State} {t u : List ℕ} {s : St} (ks : List Token) → peek ks s ≡ true
       → At text (suc i) st.next no_parent fr f st t u s
-      → Meant (λ d. At text (suc i) st.next no_parent fr (f ⊕ single (definition_tree d))) (service_in text st t u) (parse_service s)
-  unfolding service_in parse_service service_head_in define_in own_record_in node_in code owns opened functions_in
+      → Meant (λ d. At text (suc i) st.next no_parent fr (f ⊕ single (definition_tree d))) (service_in text st.next st t u) (parse_service s)
+  unfolding service_in service_body_in parse_service service_head_in define_in own_record_in node_in code owns opened functions_in
   service_m {f = f} {st = st} {s = s} ks e h =
       begin_m ks _ _ e h λ w st₁ t₁ u₁ s₁ h₁.
       grouped _ _ _
@@ -240,8 +247,8 @@ module _ (text : List ℕ) (short : length text ≤ 65536) where
   -- ---- by the keyword
 
   pub definition_m : {i : ℕ} {fr : Frame} {f : Forest} {st : State} {t u : List ℕ} {s : St} → At text (suc i) st.next no_parent fr f st t u s
-      → Meant (λ d. At text (suc i) st.next no_parent fr (f ⊕ single (definition_tree d))) (definition_in text st t u) (parse_definition s)
-  unfolding definition_in parse_definition when test among is code structure_kind definition_tree name_tree single
+      → Meant (λ d. At text (suc i) st.next no_parent fr (f ⊕ single (definition_tree d))) (definition_in text st.next st t u) (parse_definition s)
+  unfolding definition_in definition_by parse_definition when test among is code structure_kind definition_tree name_tree single
   definition_m {s = s} h =
       either_way _ (peek (T.Namespace ∷ []) s) (tested s (one_test T.Namespace) h.ahead)
       (λ e. rw (kind_ahead T.Namespace T.Include s e, kind_ahead T.Namespace T.CppInclude s e, e) (namespace_m (T.Namespace ∷ []) e h)) λ n₁.

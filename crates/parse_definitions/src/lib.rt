@@ -1,298 +1,218 @@
-// Definitions, the keyword ahead (rico's parser/definitions.rs); `rest` is lent from the definition's own record on.
+// Definitions, the keyword ahead (rico's parser/definitions.rs).
 #![tactic(auto)]
 
-ghost use Rattle.lexer.specs.Refusal.{number_of};
-ghost use Rattle.steps.specs.Into.{Puts, Keeps, Lent, Reads, Quiet};
-ghost use Rattle.parse_definitions.specs.Into.{begin_in, own_record_in, include_in, scope_in, namespace_in, typed_name_in, const_in, typedef_in, enum_in, structure_in, extends_in, service_head_in, service_in, definition_in};
+ghost use Rattle.std.specs.Prelude.{ℕ};
+ghost use Rattle.ast.specs.KindNumber.{number_of};
+ghost use Rattle.lexer.specs.Error.{MissingTypedefIdentifier};
+ghost use Rattle.lexer.specs.Refusal.{number_of as error_number};
+ghost use Rattle.steps.specs.Into.{M};
+ghost use Rattle.steps.specs.Reads.{Source, Reads};
+ghost use Rattle.parse_definitions.specs.Into.{define_in, included_in, include_in, scope_in, scoped_name_in, namespace_in, typed_name_in, constant_in, const_in, typedef_in, enum_body_in, enum_in, structure_body_in, structure_in, extends_in, service_head_in, service_body_in, service_in, definition_in};
 
+use ast::kind::Kind;
 use lexer::error::ErrorKind;
 use parse_fields::{Leaf, annotations, fields};
 use parse_members::{enums, functions};
 use parse_values::{types, values};
 use parser::NESTING;
-use steps::state::{Parent, Parsed, State};
+use steps::state::{Node, Parsed, Parser};
+use token::Token;
 
 // The file that is included; the scope `*`.
 const INCLUDED: Leaf = Leaf {
-    token: token::kind::STRING_LITERAL,
+    token: Token::StringLiteral,
     error: ErrorKind::MissingIncludeIdentifier,
-    kind: ast::kind::NAME,
+    kind: Kind::Name,
 };
 
 const EVERY_SCOPE: Leaf = Leaf {
-    token: token::kind::STAR,
+    token: Token::Star,
     error: ErrorKind::MissingNamespaceScope,
-    kind: ast::kind::NAME,
+    kind: Kind::Name,
 };
 
-// The record's number and the state behind the keyword, its comments owned.
-fn begin(text: &[u8], st: State, comments: &mut [u32]) -> State
-    requires { Lent text.now }
-    ensures { Keeps (begin_in text.now) st result comments.old comments.new }
+// A definition from its keyword on, the comments that wait its own; behind the keyword `inside` reads what stands below the node with the number that it is given.
+fn define<F: Fn(&mut Parser, u32) -> Parsed>(p: &mut Parser, kind: Kind, inside: F) -> Parsed
+    requires { F.IsAlwaysCallable inside }
+    ensures { (m : ℕ → Source → M) → ((s : _) (n : ℕ) (r : _) (t : _) → F.post inside s n r t → Reads (m n) s.now t.now r) → Reads (λ x. define_in x.text x.base (number_of kind) (λ n. m n x)) p.old p.new result }
 {
-    let first = st.open().own(st.next, comments);
-    first.advance(text)
+    let node = Node {
+        number: p.state.next,
+        start: p.state.loc.start,
+    };
+    p.begin_node();
+    p.advance();
+    inside(p, node.number)?;
+    p.put_node(node, kind, 0, ast::NO_PARENT);
+    Ok(())
 }
 
-// The definition's own record, from its keyword on.
-fn close(rest: &mut [u32], st: State, state: State, kind: u32)
-    ensures { Puts (own_record_in st kind) state state rest.old rest.new }
+fn parse_included(p: &mut Parser, parent: u32) -> Parsed
+    ensures { Reads (λ x. included_in x.text x.base parent) p.old p.new result }
 {
-    let loc = st.loc;
-    let start = loc.start;
-    let whole = Parent {
-        base: st.next,
-        node: ast::NO_PARENT,
-    };
-    state.put_node(rest, st.next, kind, 0, start, whole);
+    parse_fields::parse_leaf(p, INCLUDED, parent)
 }
 
 // parse_include, parse_cpp_include
 // Include ::= ('include' | 'cpp_include') string
-fn parse_include(
-    text: &[u8],
-    st: State,
-    kind: u32,
-    rest: &mut [u32],
-    comments: &mut [u32],
-) -> Parsed
-    requires { Lent text.now }
-    ensures { Reads (include_in text.now kind) st result rest.old rest.new comments.old comments.new }
+fn parse_include(p: &mut Parser, kind: Kind) -> Parsed
+    ensures { Reads (λ x. include_in x.text x.base (number_of kind)) p.old p.new result }
 {
-    let under = Parent {
-        base: st.next,
-        node: st.next,
-    };
-    let begun = begin(text, st, comments);
-    let state = parse_fields::parse_leaf(text, begun, INCLUDED, under, rest)?;
-    close(rest, st, state, kind);
-    Ok(state)
+    define(p, kind, parse_included)
 }
 
 // The scope of a namespace: a name or `*`.
-fn parse_scope(text: &[u8], st: State, parent: Parent, rest: &mut [u32]) -> Parsed
-    requires { Lent text.now }
-    ensures { Quiet (scope_in text.now parent.base parent.node) st result rest.old rest.new }
+fn parse_scope(p: &mut Parser, parent: u32) -> Parsed
+    ensures { Reads (λ x. scope_in x.text x.base parent) p.old p.new result }
 {
-    if st.kind == token::kind::STAR {
-        return parse_fields::parse_leaf(text, st, EVERY_SCOPE, parent, rest);
+    if p.is(Token::Star) {
+        return parse_fields::parse_leaf(p, EVERY_SCOPE, parent);
     }
-    parse_fields::parse_name(text, st, ErrorKind::MissingNamespaceScope, parent, rest)
+    parse_fields::parse_name(p, ErrorKind::MissingNamespaceScope, parent)
+}
+
+fn parse_scoped_name(p: &mut Parser, parent: u32) -> Parsed
+    ensures { Reads (λ x. scoped_name_in x.text x.base parent) p.old p.new result }
+{
+    parse_scope(p, parent)?;
+    parse_fields::parse_name(p, ErrorKind::MissingNamespaceIdentifier, parent)
 }
 
 // parse_namespace
 // Namespace ::= 'namespace' (name | '*') name
-fn parse_namespace(text: &[u8], st: State, rest: &mut [u32], comments: &mut [u32]) -> Parsed
-    requires { Lent text.now }
-    ensures { Reads (namespace_in text.now) st result rest.old rest.new comments.old comments.new }
+fn parse_namespace(p: &mut Parser) -> Parsed
+    ensures { Reads (λ x. namespace_in x.text x.base) p.old p.new result }
 {
-    let under = Parent {
-        base: st.next,
-        node: st.next,
-    };
-    let begun = begin(text, st, comments);
-    let scoped = parse_scope(text, begun, under, rest)?;
-    let state = parse_fields::parse_name(
-        text,
-        scoped,
-        ErrorKind::MissingNamespaceIdentifier,
-        under,
-        rest,
-    )?;
-    close(rest, st, state, ast::kind::NAMESPACE);
-    Ok(state)
+    define(p, Kind::Namespace, parse_scoped_name)
 }
 
 // A type and a name.
-fn parse_typed_name(
-    text: &[u8],
-    st: State,
-    error: ErrorKind,
-    parent: Parent,
-    rest: &mut [u32],
-) -> Parsed
-    requires { Lent text.now }
-    ensures { Quiet (typed_name_in text.now (number_of error) parent.base parent.node) st result rest.old rest.new }
+fn parse_typed_name(p: &mut Parser, error: ErrorKind, parent: u32) -> Parsed
+    ensures { Reads (λ x. typed_name_in x.text (error_number error) x.base parent) p.old p.new result }
 {
-    let typed = types::parse_type(text, st, NESTING, parent, rest)?;
-    parse_fields::parse_name(text, typed, error, parent, rest)
+    types::parse_type(p, NESTING, parent)?;
+    parse_fields::parse_name(p, error, parent)
+}
+
+fn parse_constant(p: &mut Parser, parent: u32) -> Parsed
+    ensures { Reads (λ x. constant_in x.text x.base parent) p.old p.new result }
+{
+    parse_typed_name(p, ErrorKind::MissingConstIdentifier, parent)?;
+    p.expect(Token::Equals, ErrorKind::UnexpectedToken)?;
+    values::parse_value(p, NESTING, parent)
 }
 
 // parse_const: separators and comments behind the value are taken, and lie outside its range.
 // Const ::= 'const' Type name '=' Value (Separator | Comment)*
-fn parse_const(text: &[u8], st: State, rest: &mut [u32], comments: &mut [u32]) -> Parsed
-    requires { Lent text.now }
-    ensures { Reads (const_in text.now) st result rest.old rest.new comments.old comments.new }
+fn parse_const(p: &mut Parser) -> Parsed
+    ensures { Reads (λ x. const_in x.text x.base) p.old p.new result }
 {
-    let under = Parent {
-        base: st.next,
-        node: st.next,
-    };
-    let begun = begin(text, st, comments);
-    let named = parse_typed_name(text, begun, ErrorKind::MissingConstIdentifier, under, rest)?;
-    let behind = named.expect(text, token::kind::EQUALS, ErrorKind::UnexpectedToken)?;
-    let state = values::parse_value(text, behind, NESTING, under, rest)?;
-    close(rest, st, state, ast::kind::CONST);
-    Ok(state.skip_comments(text, true, comments))
+    define(p, Kind::Const, parse_constant)?;
+    p.skip_comments(true);
+    Ok(())
+}
+
+fn parse_alias(p: &mut Parser, parent: u32) -> Parsed
+    ensures { Reads (λ x. typed_name_in x.text MissingTypedefIdentifier x.base parent) p.old p.new result }
+{
+    parse_typed_name(p, ErrorKind::MissingTypedefIdentifier, parent)
 }
 
 // parse_typedef
 // Typedef ::= 'typedef' Type name
-fn parse_typedef(text: &[u8], st: State, rest: &mut [u32], comments: &mut [u32]) -> Parsed
-    requires { Lent text.now }
-    ensures { Reads (typedef_in text.now) st result rest.old rest.new comments.old comments.new }
+fn parse_typedef(p: &mut Parser) -> Parsed
+    ensures { Reads (λ x. typedef_in x.text x.base) p.old p.new result }
 {
-    let under = Parent {
-        base: st.next,
-        node: st.next,
-    };
-    let begun = begin(text, st, comments);
-    let state = parse_typed_name(
-        text,
-        begun,
-        ErrorKind::MissingTypedefIdentifier,
-        under,
-        rest,
-    )?;
-    close(rest, st, state, ast::kind::TYPEDEF);
-    Ok(state)
+    define(p, Kind::Typedef, parse_alias)
+}
+
+fn parse_enum_body(p: &mut Parser, parent: u32) -> Parsed
+    ensures { Reads (λ x. enum_body_in x.text x.base parent) p.old p.new result }
+{
+    parse_fields::parse_name(p, ErrorKind::MissingEnumIdentifier, parent)?;
+    enums::parse_enum_members(p, parent)?;
+    annotations::parse_annotations(p, parent)
 }
 
 // parse_enum
 // Enum ::= 'enum' name '{' EnumMember* '}' Annotations?
-fn parse_enum(text: &[u8], st: State, rest: &mut [u32], comments: &mut [u32]) -> Parsed
-    requires { Lent text.now }
-    ensures { Reads (enum_in text.now) st result rest.old rest.new comments.old comments.new }
+fn parse_enum(p: &mut Parser) -> Parsed
+    ensures { Reads (λ x. enum_in x.text x.base) p.old p.new result }
 {
-    let under = Parent {
-        base: st.next,
-        node: st.next,
-    };
-    let begun = begin(text, st, comments);
-    let named = parse_fields::parse_name(
-        text,
-        begun,
-        ErrorKind::MissingEnumIdentifier,
-        under,
-        rest,
-    )?;
-    let behind = enums::parse_enum_members(text, named, under, rest, comments)?;
-    let state = annotations::parse_annotations(text, behind, under, rest)?;
-    close(rest, st, state, ast::kind::ENUM);
-    Ok(state)
+    define(p, Kind::Enum, parse_enum_body)
 }
 
-// parse_struct_like: struct, union, exception
-// Structure ::= ('struct' | 'union' | 'exception') name '{' Field* '}' Annotations?
-fn parse_structure(
-    text: &[u8],
-    st: State,
-    kind: u32,
-    rest: &mut [u32],
-    comments: &mut [u32],
-) -> Parsed
-    requires { Lent text.now }
-    ensures { Reads (structure_in text.now kind) st result rest.old rest.new comments.old comments.new }
+fn parse_structure_body(p: &mut Parser, parent: u32) -> Parsed
+    ensures { Reads (λ x. structure_body_in x.text x.base parent) p.old p.new result }
 {
-    let under = Parent {
-        base: st.next,
-        node: st.next,
-    };
-    let begun = begin(text, st, comments);
-    let named = parse_fields::parse_name(
-        text,
-        begun,
-        ErrorKind::MissingStructIdentifier,
-        under,
-        rest,
-    )?;
-    let behind = fields::parse_fields(text, named, fields::MEMBERS, under, rest, comments)?;
-    let state = annotations::parse_annotations(text, behind, under, rest)?;
-    close(rest, st, state, kind);
-    Ok(state)
+    parse_fields::parse_name(p, ErrorKind::MissingStructIdentifier, parent)?;
+    fields::parse_fields(p, fields::MEMBERS, parent)?;
+    annotations::parse_annotations(p, parent)
+}
+
+// parse_struct, parse_union, parse_exception
+// Structure ::= ('struct' | 'union' | 'exception') name '{' Field* '}' Annotations?
+fn parse_structure(p: &mut Parser, kind: Kind) -> Parsed
+    ensures { Reads (λ x. structure_in x.text x.base (number_of kind)) p.old p.new result }
+{
+    define(p, kind, parse_structure_body)
 }
 
 // The service that another extends, if it names one.
 // Extends ::= 'extends' name
-fn parse_extends(text: &[u8], st: State, parent: Parent, rest: &mut [u32]) -> Parsed
-    requires { Lent text.now }
-    ensures { Quiet (extends_in text.now parent.base parent.node) st result rest.old rest.new }
+fn parse_extends(p: &mut Parser, parent: u32) -> Parsed
+    ensures { Reads (λ x. extends_in x.text x.base parent) p.old p.new result }
 {
-    if st.kind != token::kind::EXTENDS {
-        return Ok(st);
+    if !p.is(Token::Extends) {
+        return Ok(());
     }
-    let state = st.advance(text);
-    parse_fields::parse_name(text, state, ErrorKind::MissingServiceExtends, parent, rest)
+    p.advance();
+    parse_fields::parse_name(p, ErrorKind::MissingServiceExtends, parent)
 }
 
 // The name of a service, and what it extends.
-fn parse_service_head(text: &[u8], st: State, parent: Parent, rest: &mut [u32]) -> Parsed
-    requires { Lent text.now }
-    ensures { Quiet (service_head_in text.now parent.base parent.node) st result rest.old rest.new }
+fn parse_service_head(p: &mut Parser, parent: u32) -> Parsed
+    ensures { Reads (λ x. service_head_in x.text x.base parent) p.old p.new result }
 {
-    let named = parse_fields::parse_name(
-        text,
-        st,
-        ErrorKind::MissingServiceIdentifier,
-        parent,
-        rest,
-    )?;
-    parse_extends(text, named, parent, rest)
+    parse_fields::parse_name(p, ErrorKind::MissingServiceIdentifier, parent)?;
+    parse_extends(p, parent)
+}
+
+fn parse_service_body(p: &mut Parser, parent: u32) -> Parsed
+    ensures { Reads (λ x. service_body_in x.text x.base parent) p.old p.new result }
+{
+    parse_service_head(p, parent)?;
+    functions::parse_functions(p, parent)?;
+    annotations::parse_annotations(p, parent)
 }
 
 // parse_service
 // Service ::= 'service' name Extends? '{' Function* '}' Annotations?
-fn parse_service(text: &[u8], st: State, rest: &mut [u32], comments: &mut [u32]) -> Parsed
-    requires { Lent text.now }
-    ensures { Reads (service_in text.now) st result rest.old rest.new comments.old comments.new }
+fn parse_service(p: &mut Parser) -> Parsed
+    ensures { Reads (λ x. service_in x.text x.base) p.old p.new result }
 {
-    let under = Parent {
-        base: st.next,
-        node: st.next,
-    };
-    let begun = begin(text, st, comments);
-    let named = parse_service_head(text, begun, under, rest)?;
-    let behind = functions::parse_functions(text, named, under, rest, comments)?;
-    let state = annotations::parse_annotations(text, behind, under, rest)?;
-    close(rest, st, state, ast::kind::SERVICE);
-    Ok(state)
+    define(p, Kind::Service, parse_service_body)
 }
 
 // The definition whose keyword is ahead.
 // Definition ::= Include | Namespace | Const | Typedef | Enum | Structure | Service
-pub fn parse_definition(text: &[u8], st: State, rest: &mut [u32], comments: &mut [u32]) -> Parsed
-    requires { Lent text.now }
-    ensures { Reads (definition_in text.now) st result rest.old rest.new comments.old comments.new }
+pub fn parse_definition(p: &mut Parser) -> Parsed
+    ensures { Reads (λ x. definition_in x.text x.base) p.old p.new result }
 {
-    if st.kind == token::kind::NAMESPACE {
-        return parse_namespace(text, st, rest, comments);
+    let Some(token) = p.state.token else {
+        return Err(p.error(ErrorKind::UnexpectedToken));
+    };
+    match token {
+        Token::Namespace => parse_namespace(p),
+        Token::CppInclude => parse_include(p, Kind::CppInclude),
+        Token::Include => parse_include(p, Kind::Include),
+        Token::Typedef => parse_typedef(p),
+        Token::Const => parse_const(p),
+        Token::Enum => parse_enum(p),
+        Token::Struct => parse_structure(p, Kind::Struct),
+        Token::Union => parse_structure(p, Kind::Union),
+        Token::Exception => parse_structure(p, Kind::Exception),
+        Token::Service => parse_service(p),
+        _ => Err(p.error(ErrorKind::UnexpectedToken)),
     }
-    if st.kind == token::kind::CPP_INCLUDE {
-        return parse_include(text, st, ast::kind::CPP_INCLUDE, rest, comments);
-    }
-    if st.kind == token::kind::INCLUDE {
-        return parse_include(text, st, ast::kind::INCLUDE, rest, comments);
-    }
-    if st.kind == token::kind::TYPEDEF {
-        return parse_typedef(text, st, rest, comments);
-    }
-    if st.kind == token::kind::CONST {
-        return parse_const(text, st, rest, comments);
-    }
-    if st.kind == token::kind::ENUM {
-        return parse_enum(text, st, rest, comments);
-    }
-    if st.kind == token::kind::STRUCT {
-        return parse_structure(text, st, ast::kind::STRUCT, rest, comments);
-    }
-    if st.kind == token::kind::UNION {
-        return parse_structure(text, st, ast::kind::UNION, rest, comments);
-    }
-    if st.kind == token::kind::EXCEPTION {
-        return parse_structure(text, st, ast::kind::EXCEPTION, rest, comments);
-    }
-    if st.kind == token::kind::SERVICE {
-        return parse_service(text, st, rest, comments);
-    }
-    st.refuse(ErrorKind::UnexpectedToken)
 }

@@ -1,5 +1,4 @@
 pub mod Bytes
 pub mod Forms
-pub mod ListForms
 pub mod KindTests
 pub mod MeantFields

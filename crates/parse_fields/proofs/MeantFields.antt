@@ -60,6 +60,8 @@ use Rattle.parser.specs.Definitions.{
 }
 use Rattle.steps.specs.Packed.{unpacked_loc}
 use Rattle.steps.specs.Into.{
+  Falls,
+  code_of,
   done,
   M,
   after,
@@ -121,7 +123,7 @@ use Rattle.steps.proofs.StepLaws.{
   taken_in,
   emptied,
 }
-use Rattle.steps.proofs.Bytes.{Falls, skip_rests}
+use Rattle.steps.proofs.Bytes.{skip_rests}
 use Rattle.parse_fields.proofs.Bytes.{annotation_falls, skip_member_rests}
 use Rattle.steps.proofs.NodeLaws.{open_at, own_at, finish_at, leaf_at, leaf_m, Turn, turn_after, turn_last, closed_turn, loop_m}
 use Rattle.parse_values.proofs.MeantTypes.{type_m}
@@ -244,26 +246,26 @@ module _ (text : List ℕ) (short : length text ≤ 65536) where
       cond_m _ _ s₁ _ (is_id (bytes tok)) (ap (is_id_at text) (h₁.at.last ∙ h₁.there) ∙ h₁.first.spelled)
       (λ y. leafed 17 b p st₁ t₁ u₁ _
       (last_m (expect_m text short T.Colon _ 2 (leaf_at 17 tok h₁.at h₁.there)) λ x st₂ t₂ u₂ s₂ h₂. went (fewer (omega arith) h₂.at)))
-      (λ y. refuse_at_m 9 st tok s₁ h₁.first))
+      (λ y. refuse_at_m 9 st tok s₁ _ _ h₁.first))
       (λ e. went (regrown (sym (plus_bare f)) h))
 
   -- the state behind a requiredness that may be there, and its flag
   record Flagged (i b p : ℕ) (fr : Frame) (f : Forest) (before : State) (r : Required) (st : State) (t u : List ℕ) (s : St) : Type 0 where
     at : At text i b p fr f st t u s
-    flag : required_of before.kind ≡ required_flag r
+    flag : required_of (code_of before) ≡ required_flag r
 
   required_by : {i b p : ℕ} {fr : Frame} {f : Forest} {st : State} {t u : List ℕ} {s : St} → At text i b p fr f st t u s
-      → (x y : Bool) → eqb st.kind 13 ≡ x → peek (T.Required ∷ []) s ≡ x → eqb st.kind 14 ≡ y → peek (T.Optional ∷ []) s ≡ y
+      → (x y : Bool) → eqb (code_of st) 13 ≡ x → peek (T.Required ∷ []) s ≡ x → eqb (code_of st) 14 ≡ y → peek (T.Optional ∷ []) s ≡ y
       → Meant (Flagged i b p fr f st) (done (skip_required text st) t u) (parse_required s)
   unfolding parse_required when test skip_required required_flag
   required_by {st = st} {s = s} h true y k e k' e' =
-      let z : required_of st.kind ≡ 1 = flag_of st.kind true y k k' in
+      let z : required_of (code_of st) ≡ 1 = flag_of (code_of st) true y k k' in
       rw (z, e) (last_m (step_m text short (T.Required ∷ []) s e h) λ x st₁ t₁ u₁ s₁ h₁. went (record { at = less (less h₁.at); flag = z }))
   required_by {st = st} {s = s} h false true k e k' e' =
-      let z : required_of st.kind ≡ 2 = flag_of st.kind false true k k' in
+      let z : required_of (code_of st) ≡ 2 = flag_of (code_of st) false true k k' in
       rw (z, e, e') (last_m (step_m text short (T.Optional ∷ []) s e' h) λ x st₁ t₁ u₁ s₁ h₁. went (record { at = less (less h₁.at); flag = z }))
   required_by {st = st} h false false k e k' e' =
-      let z : required_of st.kind ≡ 0 = flag_of st.kind false false k k' in
+      let z : required_of (code_of st) ≡ 0 = flag_of (code_of st) false false k k' in
       rw (z, e, e') (went (record { at = h; flag = z }))
 
   required_m : {i b p : ℕ} {fr : Frame} {f : Forest} {st : State} {t u : List ℕ} {s : St} → At text i b p fr f st t u s
@@ -296,7 +298,7 @@ module _ (text : List ℕ) (short : length text ≤ 65536) where
       (owning st t u _
       (bind_m (field_id_m o) λ i st₁ t₁ u₁ s₁ h₁.
       grouped _ _ _
-      (here_m {k = type_in text 32 b n ⨟ (field_name_in text b n ⨟ (field_tail_in text b n ⨟ node_in n 12 (sum (required_of st₁.kind) fl) (start_at st) b p))}
+      (here_m {k = type_in text 32 b n ⨟ (field_name_in text b n ⨟ (field_tail_in text b n ⨟ node_in n 12 (sum (required_of (code_of st₁)) fl) (start_at st) b p))}
       (required_m h₁) λ r st₂ t₂ u₂ s₂ h₂.
       bind_m (type_m text short 32 h₂.at) λ y st₃ t₃ u₃ s₃ h₃.
       bind_m (field_name_m h₃) λ m st₄ t₄ u₄ s₄ h₄.
@@ -304,11 +306,11 @@ module _ (text : List ℕ) (short : length text ≤ 65536) where
       (bind_m (default_m h₄.at) λ v st₅ t₅ u₅ s₅ h₅.
       bind_m (annotations_m h₅) λ a st₆ t₆ u₆ s₆ h₆. here_in s₆ _
       (let l = span (start_of (emptied s)) (last_of s₆) in
-      let z : sum (required_of st₁.kind) fl ≡ required_flag r + fl =
-      small_sum (required_of st₁.kind) fl (omega (arith, h₂.flag, required_small r)) ∙ omega (arith, h₂.flag) in
+      let z : sum (required_of (code_of st₁)) fl ≡ required_flag r + fl =
+      small_sum (required_of (code_of st₁)) fl (omega (arith, h₂.flag, required_small r)) ∙ omega (arith, h₂.flag) in
       went
       (regrown (ap (λ (x : Tree). f ⊕ single x) (field_node fl l (waiting_of s) i r y m v a _ z))
-      (finish_at 12 (sum (required_of st₁.kind) fl) (start_of (emptied s)) (start_at st) [] (waiting_of s) h h₆ (start_at_law (emptied s) o)))))))))
+      (finish_at 12 (sum (required_of (code_of st₁)) fl) (start_of (emptied s)) (start_at st) [] (waiting_of s) h h₆ (start_at_law (emptied s) o)))))))))
 
   -- ---- members
 

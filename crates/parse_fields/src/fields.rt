@@ -1,41 +1,43 @@
 // Fields.
 ghost use Rattle.std.specs.Prelude.{◌≡◌};
-ghost use Rattle.steps.specs.Into.{Lent, Reads, Quiet};
-ghost use Rattle.parse_fields.specs.Into.{field_id_in, required_of, skip_required, is_early_name, is_field_name, field_name_in, default_in, field_head_in, field_tail_in, field_in, fields_in};
+ghost use Rattle.token.specs.Code.{code};
+ghost use Rattle.steps.specs.Into.{Falls, M, code_of};
+ghost use Rattle.steps.specs.Reads.{Source, Does, Reads, Shortens};
+ghost use Rattle.parse_fields.specs.Into.{field_id_in, required_of, skip_required_in, is_field_name, field_name_in, default_in, field_head_in, field_tail_in, field_in, skip_member_in, members_in, fields_in};
 
 use crate::annotations;
 use ast::flag;
+use ast::kind::Kind;
 use lexer::error::ErrorKind;
 use parse_values::{types, values};
 use parser::NESTING;
-use steps::state::{Parent, Parsed, State};
+use steps::state::{Node, Parsed, Parser};
 use steps::{id, table};
+use token::Token;
 
 // parse_field_id; without an id no token is taken.
 // FieldId ::= (integer ':')?
-fn parse_field_id(text: &[u8], first: State, parent: Parent, rest: &mut [u32]) -> Parsed
-    requires { Lent text.now }
-    ensures { Quiet (field_id_in text.now parent.base parent.node) first result rest.old rest.new }
+fn parse_field_id(p: &mut Parser, parent: u32) -> Parsed
+    ensures { Reads (λ x. field_id_in x.text x.base parent) p.old p.new result }
 {
-    if first.kind != token::kind::INTEGER_LITERAL {
-        return Ok(first);
+    if !p.is(Token::IntegerLiteral) {
+        return Ok(());
     }
-    let state = first.advance(text);
-    if !id::is_id_at(text, state.last) {
-        return first.refuse(ErrorKind::InvalidFieldId);
+    if !id::is_id_at(p.text, p.state.loc) {
+        return Err(p.error(ErrorKind::InvalidFieldId));
     }
-    let numbered = state.put_leaf(rest, ast::kind::FIELD_ID, parent);
-    numbered.expect(text, token::kind::COLON, ErrorKind::UnexpectedToken)
+    p.advance();
+    p.put_leaf(Kind::FieldId, parent);
+    p.expect(Token::Colon, ErrorKind::UnexpectedToken)
 }
 
 // The flag of a requiredness; else 0.
-fn required_flag(kind: u32) -> u32
-    ensures { result ≡ required_of kind }
+fn required_flag(p: &Parser) -> u32
+    ensures { result ≡ required_of (code_of p.now.state) }
 {
-    if kind == token::kind::REQUIRED {
-        return flag::REQUIRED;
-    }
-    if kind == token::kind::OPTIONAL {
+    if p.is(Token::Required) {
+        flag::REQUIRED
+    } else if p.is(Token::Optional) {
         flag::OPTIONAL
     } else {
         0
@@ -44,169 +46,168 @@ fn required_flag(kind: u32) -> u32
 
 // Past a requiredness, if it is there.
 // Required ::= 'required' | 'optional'
-fn skip_required(text: &[u8], st: State) -> State
-    requires { Lent text.now }
-    ensures { result ≡ skip_required text.now st }
+fn skip_required(p: &mut Parser)
+    ensures { Does (λ x. skip_required_in x.text) p.old p.new }
 {
-    if required_flag(st.kind) == 0 {
-        return st;
+    if required_flag(p) != 0 {
+        p.advance();
     }
-    st.advance(text)
 }
 
-// parse_field_name: the kinds that may name a field.
-fn is_field_name(kind: u32) -> bool
-    ensures { result ≡ is_field_name kind }
+// parse_field_name: the tokens that may name a field.
+fn is_field_name(token: Token) -> bool
+    ensures { result ≡ is_field_name (code token) }
 {
-    if kind < token::kind::SERVICE {
-        return is_early_name(kind);
+    match token {
+        Token::Namespace
+        | Token::Include
+        | Token::Enum
+        | Token::Struct
+        | Token::Service
+        | Token::Extends
+        | Token::Throws
+        | Token::Required
+        | Token::Optional
+        | Token::Bool
+        | Token::Byte
+        | Token::I8
+        | Token::I16
+        | Token::I32
+        | Token::I64
+        | Token::Double
+        | Token::String
+        | Token::Binary
+        | Token::Map
+        | Token::List
+        | Token::Set
+        | Token::Identifier
+        | Token::Oneway => true,
+        _ => false,
     }
-    if kind <= token::kind::OPTIONAL {
-        return true;
-    }
-    if kind < token::kind::BOOL {
-        return false;
-    }
-    if kind <= token::kind::IDENTIFIER {
-        return true;
-    }
-    kind == token::kind::ONEWAY
 }
 
-// Of the first kinds: namespace, include, enum, struct.
-fn is_early_name(kind: u32) -> bool
-    ensures { result ≡ is_early_name kind }
+fn parse_field_name(p: &mut Parser, parent: u32) -> Parsed
+    ensures { Reads (λ x. field_name_in x.text x.base parent) p.old p.new result }
 {
-    if kind == token::kind::NAMESPACE {
-        return true;
+    match p.state.token {
+        Some(token) if is_field_name(token) => {
+            p.advance();
+            p.put_leaf(Kind::Name, parent);
+            Ok(())
+        }
+        _ => Err(p.error(ErrorKind::InvalidFieldName)),
     }
-    if kind == token::kind::INCLUDE {
-        return true;
-    }
-    if kind == token::kind::ENUM {
-        return true;
-    }
-    kind == token::kind::STRUCT
-}
-
-fn parse_field_name(text: &[u8], st: State, parent: Parent, rest: &mut [u32]) -> Parsed
-    requires { Lent text.now }
-    ensures { Quiet (field_name_in text.now parent.base parent.node) st result rest.old rest.new }
-{
-    if !is_field_name(st.kind) {
-        return st.refuse(ErrorKind::InvalidFieldName);
-    }
-    let state = st.advance(text);
-    Ok(state.put_leaf(rest, ast::kind::NAME, parent))
 }
 
 // The default value, if there is one.
 // Default ::= '=' Value
-fn parse_default(text: &[u8], st: State, parent: Parent, rest: &mut [u32]) -> Parsed
-    requires { Lent text.now }
-    ensures { Quiet (default_in text.now parent.base parent.node) st result rest.old rest.new }
+fn parse_default(p: &mut Parser, parent: u32) -> Parsed
+    ensures { Reads (λ x. default_in x.text x.base parent) p.old p.new result }
 {
-    if st.kind != token::kind::EQUALS {
-        return Ok(st);
+    if !p.is(Token::Equals) {
+        return Ok(());
     }
-    let state = st.advance(text);
-    values::parse_value(text, state, NESTING, parent, rest)
+    p.advance();
+    values::parse_value(p, NESTING, parent)
 }
 
 // The type and the name of a field, behind its id.
-fn parse_field_head(text: &[u8], st: State, parent: Parent, rest: &mut [u32]) -> Parsed
-    requires { Lent text.now }
-    ensures { Quiet (field_head_in text.now parent.base parent.node) st result rest.old rest.new }
+fn parse_field_head(p: &mut Parser, parent: u32) -> Parsed
+    ensures { Reads (λ x. field_head_in x.text x.base parent) p.old p.new result }
 {
-    let begun = skip_required(text, st);
-    let typed = types::parse_type(text, begun, NESTING, parent, rest)?;
-    parse_field_name(text, typed, parent, rest)
+    skip_required(p);
+    types::parse_type(p, NESTING, parent)?;
+    parse_field_name(p, parent)
 }
 
 // The default value and the annotations of a field.
-fn parse_field_tail(text: &[u8], st: State, parent: Parent, rest: &mut [u32]) -> Parsed
-    requires { Lent text.now }
-    ensures { Quiet (field_tail_in text.now parent.base parent.node) st result rest.old rest.new }
+fn parse_field_tail(p: &mut Parser, parent: u32) -> Parsed
+    ensures { Reads (λ x. field_tail_in x.text x.base parent) p.old p.new result }
 {
-    let state = parse_default(text, st, parent, rest)?;
-    annotations::parse_annotations(text, state, parent, rest)
+    parse_default(p, parent)?;
+    annotations::parse_annotations(p, parent)
 }
 
 // parse_field; `flag` is THROWN for a thrown field, else 0.
 // Field ::= FieldId Required? Type FieldName Default? Annotations?
-fn parse_field(
-    text: &[u8],
-    st: State,
-    flag: u32,
-    parent: Parent,
-    rest: &mut [u32],
-    comments: &mut [u32],
-) -> Parsed
-    requires { Lent text.now }
-    ensures { Reads (field_in text.now flag parent.base parent.node) st result rest.old rest.new comments.old comments.new }
+fn parse_field(p: &mut Parser, flag: u32, parent: u32) -> Parsed
+    ensures { Reads (λ x. field_in x.text flag x.base parent) p.old p.new result }
 {
-    let under = Parent {
-        base: parent.base,
-        node: st.next,
+    let field = Node {
+        number: p.state.next,
+        start: p.state.start(),
     };
-    let first = st.open().own(st.next, comments);
-    let numbered = parse_field_id(text, first, under, rest)?;
-    let named = parse_field_head(text, numbered, under, rest)?;
-    let state = parse_field_tail(text, named, under, rest)?;
-    let start = st.start();
-    let flags = table::sum(required_flag(numbered.kind), flag);
-    state.put_node(rest, st.next, ast::kind::FIELD, flags, start, parent);
-    Ok(state)
+    p.begin_node();
+    parse_field_id(p, field.number)?;
+    let flags = table::sum(required_flag(p), flag);
+    parse_field_head(p, field.number)?;
+    parse_field_tail(p, field.number)?;
+    p.put_node(field, Kind::Field, flags, parent);
+    Ok(())
 }
 
-// A list of fields: the kinds of its brackets, and the flag of each field.
+// Separators and comments before a member; the comments wait.
+pub fn skip_member(p: &mut Parser)
+    ensures { Does (λ x. skip_member_in x.text) p.old p.new }
+{
+    p.skip(true);
+    p.skip_comments(false);
+}
+
+// Members from one bracket to another.
+// Members ::= open (Separator* Comment* Member)* Separator* Comment* close
+pub fn parse_between<F: Fn(&mut Parser) -> Parsed>(
+    p: &mut Parser,
+    opener: Token,
+    closer: Token,
+    member: F,
+) -> Parsed
+    requires callable { F.IsAlwaysCallable member }
+    requires falls { (s : _) (r : _) (t : _) → F.post member s r t → Shortens s.now t.now r }
+    ensures { (m : Source → M) → ((x : Source) → Falls x.text (m x)) → ((s : _) (r : _) (t : _) → F.post member s r t → Reads m s.now t.now r) → Reads (λ x. members_in x.text (code opener) (code closer) (m x)) p.old p.new result }
+{
+    p.expect(opener, ErrorKind::UnexpectedToken)?;
+    p.parse_members(closer, skip_member, member)
+}
+
+// A list of fields: its brackets, and the flag of each field.
 #[derive(Clone, Copy, Debug, PartialEq, Eq)]
 pub struct FieldList {
-    pub opener: u32,
-    pub closer: u32,
+    pub opener: Token,
+    pub closer: Token,
     pub flag: u32,
 }
 
 // The fields of a structure; the parameters of a function; what it throws.
 pub const MEMBERS: FieldList = FieldList {
-    opener: token::kind::LEFT_BRACE,
-    closer: token::kind::RIGHT_BRACE,
+    opener: Token::LeftBrace,
+    closer: Token::RightBrace,
     flag: 0,
 };
 
 pub const PARAMETERS: FieldList = FieldList {
-    opener: token::kind::LEFT_PAREN,
-    closer: token::kind::RIGHT_PAREN,
+    opener: Token::LeftParen,
+    closer: Token::RightParen,
     flag: 0,
 };
 
 pub const THROWN: FieldList = FieldList {
-    opener: token::kind::LEFT_PAREN,
-    closer: token::kind::RIGHT_PAREN,
+    opener: Token::LeftParen,
+    closer: Token::RightParen,
     flag: flag::THROWN,
 };
 
 // parse_members and parse_parameters over fields.
-// Fields ::= open (Separator* Comment* Field)* Separator* Comment* close
-pub fn parse_fields(
-    text: &[u8],
-    st: State,
-    list: FieldList,
-    parent: Parent,
-    rest: &mut [u32],
-    comments: &mut [u32],
-) -> Parsed
-    requires { Lent text.now }
-    ensures { Reads (fields_in text.now list.opener list.closer list.flag parent.base parent.node) st result rest.old rest.new comments.old comments.new }
+pub fn parse_fields(p: &mut Parser, list: FieldList, parent: u32) -> Parsed
+    ensures { Reads (λ x. fields_in x.text (code list.opener) (code list.closer) list.flag x.base parent) p.old p.new result }
 {
-    let inside = st.expect(text, list.opener, ErrorKind::UnexpectedToken)?;
-    let mut state = inside;
-    loop {
-        let over = state.skip(text, true);
-        let found = over.skip_comments(text, false, comments);
-        if found.kind == list.closer {
-            return found.take(text);
-        }
-        state = parse_field(text, found, list.flag, parent, rest, comments)?;
-    }
+    let flag = list.flag;
+    parse_between(
+        p,
+        list.opener,
+        list.closer,
+        |p: &mut Parser| -> Parsed
+            ensures { Reads (λ x. field_in x.text flag x.base parent) p.entry.now p.exit.now result }
+        { parse_field(p, flag, parent) },
+    )
 }

@@ -6,26 +6,8 @@ use Prim.Native.Nat.{ℕ, ◌≤◌}
 use native.Mathlib.Omega.{arith}
 use lib.Dec.{eqb}
 use Rattle.steps.specs.declared.state.State.{State}
-use Rattle.steps.specs.Into.{advanced, bytes_left, opened, sum}
-use Rattle.steps.proofs.Bytes.{
-  Falls,
-  Rests,
-  weak_w,
-  after_w,
-  cond_w,
-  cond_known,
-  fall_rest,
-  rest_rest,
-  some_by,
-  stays_w,
-  advance_falls,
-  advanced_w,
-  opened_w,
-  leaf_rests,
-  node_rests,
-  own_rests,
-  comments_rests,
-}
+use Rattle.steps.specs.Into.{Falls, Rests, code_of, advanced, bytes_left, opened, sum}
+use Rattle.steps.proofs.Bytes.{weak_w, after_w, cond_w, cond_known, fall_rest, rest_rest, some_by, stays_w, advance_falls, advanced_w, opened_w, leaf_rests, node_rests, own_rests, comments_rests}
 use Rattle.parse_values.proofs.Bytes.{type_falls}
 use Rattle.parser.specs.Definitions.{nesting}
 use Rattle.parse_fields.proofs.Bytes.{token_falls, name_falls, annotations_rests, members_falls, fields_falls}
@@ -49,23 +31,23 @@ module _ (text : List ℕ) where
   throws_rests : (b p : ℕ) → Rests text (throws_in text b p)
   unfolding throws_in
   throws_rests b p st t u =
-      cond_known (eqb st.kind 12)
-      (λ e. weak_w (λ n h. omega arith) (advanced_w text st (some_by (λ n. eqb n 12) refl st.kind e) (fields_falls text 40 41 16 b p (advanced text st) t u)))
+      cond_known (eqb (code_of st) 12)
+      (λ e. weak_w (λ n h. omega arith) (advanced_w text st (some_by (λ n. eqb n 12) refl (code_of st) e) (fields_falls text 40 41 16 b p (advanced text st) t u)))
       (λ e. stays_w text st t u)
 
   return_type_falls : (b p : ℕ) → Falls text (return_type_in text b p)
   unfolding return_type_in
   return_type_falls b p st t u =
-      cond_known (eqb st.kind 15)
-      (λ e. advanced_w text st (some_by (λ n. eqb n 15) refl st.kind e) (leaf_rests text 18 b p (advanced text st) t u))
+      cond_known (eqb (code_of st) 15)
+      (λ e. advanced_w text st (some_by (λ n. eqb n 15) refl (code_of st) e) (leaf_rests text 18 b p (advanced text st) t u))
       (λ e. type_falls text nesting b p st t u)
 
   oneway_left : (st : State) → bytes_left text (skip_oneway text st) ≤ bytes_left text st
   unfolding skip_oneway
-  oneway_left st = go (eqb st.kind 50) refl
+  oneway_left st = go (eqb (code_of st) 50) refl
     where
-      go : (b : Bool) → eqb st.kind 50 ≡ b → bytes_left text (cond b (advanced text st) st) ≤ bytes_left text st
-      go true e = omega (arith, advance_falls text st (some_by (λ n. eqb n 50) refl st.kind e))
+      go : (b : Bool) → eqb (code_of st) 50 ≡ b → bytes_left text (cond b (advanced text st) st) ≤ bytes_left text st
+      go true e = omega (arith, advance_falls text st (some_by (λ n. eqb n 50) refl (code_of st) e))
       go false e = omega arith
 
   function_head_falls : (b p : ℕ) → Falls text (function_head_in text b p)
@@ -84,7 +66,7 @@ module _ (text : List ℕ) where
       after_w (opened_w text st (own_rests text st.next (opened st) t u)) λ st₁ t₁ u₁ h. weak_w (λ n i. omega arith)
       (fall_rest (function_head_falls b st.next) (λ st₂ t₂ u₂. after_w (fields_falls text 40 41 0 b st.next st₂ t₂ u₂) λ st₃ t₃ u₃ g.
       after_w (function_tail_rests b st.next st₃ t₃ u₃) λ st₄ t₄ u₄ f. weak_w (λ n i. omega arith)
-      (node_rests text st.next 11 (sum (flag_if st.kind 50 4) (flag_if st₃.kind 12 8)) st₂.last.start b p st₄ t₄ u₄)) st₁ t₁ u₁)
+      (node_rests text st.next 11 (sum (flag_if (code_of st) 50 4) (flag_if (code_of st₃) 12 8)) st₂.last.start b p st₄ t₄ u₄)) st₁ t₁ u₁)
 
   pub functions_falls : (b p : ℕ) → Falls text (functions_in text b p)
   unfolding functions_in
@@ -95,9 +77,9 @@ module _ (text : List ℕ) where
   initializer_rests : (b p : ℕ) → Rests text (initializer_in text b p)
   unfolding initializer_in
   initializer_rests b p st t u =
-      cond_known (eqb st.kind 45)
-      (λ e. weak_w (λ n h. omega arith) (advanced_w text st (some_by (λ n. eqb n 45) refl st.kind e)
-      (cond_w (eqb (advanced text st).kind 31) (token_falls text 31 6 27 b p (advanced text st) t u) (token_falls text 32 6 24 b p (advanced text st) t u))))
+      cond_known (eqb (code_of st) 45)
+      (λ e. weak_w (λ n h. omega arith) (advanced_w text st (some_by (λ n. eqb n 45) refl (code_of st) e)
+      (cond_w (eqb (code_of (advanced text st)) 31) (token_falls text 31 6 27 b p (advanced text st) t u) (token_falls text 32 6 24 b p (advanced text st) t u))))
       (λ e. stays_w text st t u)
 
   pub member_falls : (b p : ℕ) → Falls text (member_in text b p)

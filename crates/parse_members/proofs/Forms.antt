@@ -1,75 +1,47 @@
--- What each reader of functions and enum members is, as its first call and what follows it.
-use mathlib.Core.Path.{◌≡◌, refl, sym, ◌∙◌}
-use mathlib.Core.Bool.{Bool, true, false, cond, ◌||◌, true≢false}
+-- What readers of functions and enum members are, as their first call and what follows it.
+use mathlib.Core.Path.{◌≡◌, refl}
+use mathlib.Core.Bool.{Bool, true, false, cond}
 use mathlib.Core.List.{List}
 use Prim.Native.Nat.{ℕ}
 use lib.Dec.{eqb}
 use Rattle.steps.specs.declared.state.State.{State}
-use Rattle.steps.specs.Into.{◌⨟◌, advanced, after, done, leaf_in, node_in, opened, own_in, skip_comments_in, sum}
+use Rattle.steps.specs.Into.{code_of, ◌⨟◌, advanced, advance_in, after, begin_node_in, done, leaf_in, node_in, open_in, sum}
 use Rattle.parse_values.specs.Into.{type_in}
-use Rattle.parse_fields.specs.Into.{annotations_in, fields_in, members_in, name_in, token_in}
-use Rattle.parse_members.specs.Into.{enum_members_in, flag_if, function_head_in, function_in, function_tail_in, functions_in, has_tail, initializer_in, member_in, return_type_in, skip_oneway, throws_in}
+use Rattle.parse_fields.specs.Into.{annotations_in, fields_in, name_in, token_in}
+use Rattle.parse_members.specs.Into.{flag_if, function_head_in, function_in, function_tail_in, initializer_in, member_in, return_type_in, skip_oneway, skip_oneway_in, throws_in}
 
-pub throws_is : (text : List ℕ) (b : ℕ) (p : ℕ) (st : State) (t u : List ℕ) → throws_in text b p st t u ≡
-    cond (eqb st.kind 12) (fields_in text 40 41 16 b p (advanced text st) t u) (done st t u)
-unfolding throws_in
-throws_is text b p st t u = refl
-
-pub return_type_is : (text : List ℕ) (b : ℕ) (p : ℕ) (st : State) (t u : List ℕ) → return_type_in text b p st t u ≡
-    cond (eqb st.kind 15) (leaf_in 18 b p (advanced text st) t u) (type_in text 32 b p st t u)
-unfolding return_type_in
-return_type_is text b p st t u = refl
-
-pub function_head_is : (text : List ℕ) (b : ℕ) (p : ℕ) (st : State) (t u : List ℕ) → function_head_in text b p st t u ≡
-    after (return_type_in text b p (skip_oneway text st) t u) (name_in text 2 b p)
-unfolding function_head_in
-function_head_is text b p st t u = refl
-
-pub function_tail_is : (text : List ℕ) (b : ℕ) (p : ℕ) (st : State) (t u : List ℕ) → function_tail_in text b p st t u ≡
-    (throws_in text b p ⨟ (skip_comments_in text true ⨟ annotations_in text b p)) st t u
-unfolding function_tail_in
-function_tail_is text b p st t u = refl
-
-pub function_is : (text : List ℕ) (b : ℕ) (p : ℕ) (st : State) (t u : List ℕ) → function_in text b p st t u ≡
-    after (own_in st.next (opened st) t u) (function_head_in text b st.next ⨟ λ st₁ t u. after (fields_in text 40 41 0 b st.next st₁ t u) (λ st₂ t u. after (function_tail_in text b st.next st₂ t u) (node_in st.next 11 (sum (flag_if st.kind 50 4) (flag_if st₂.kind 12 8)) st₁.last.start b p)))
-unfolding function_in
-function_is text b p st t u = refl
-
-pub functions_is : (text : List ℕ) (b : ℕ) (p : ℕ) (st : State) (t u : List ℕ) → functions_in text b p st t u ≡
-    (members_in text 34 35 (function_in text b p)) st t u
-unfolding functions_in
-functions_is text b p st t u = refl
-
-pub initializer_is : (text : List ℕ) (b : ℕ) (p : ℕ) (st : State) (t u : List ℕ) → initializer_in text b p st t u ≡
-    cond (eqb st.kind 45) (let st₁ = advanced text st in cond (eqb st₁.kind 31) (token_in text 31 6 27 b p st₁ t u) (token_in text 32 6 24 b p st₁ t u)) (done st t u)
-unfolding initializer_in
-initializer_is text b p st t u = refl
-
--- a member without a tail: the kind behind its name is neither `=` nor `(`
-pub no_tail : (k : ℕ) (r : Bool) → r ≡ has_tail k → r ≡ false → (eqb k 45 ≡ false) × (eqb k 40 ≡ false)
-unfolding has_tail
-no_tail k r e h = go (eqb k 45) (eqb k 40) (sym e ∙ h)
-  where
-    go : (a b : Bool) → (a || b) ≡ false → (a ≡ false) × (b ≡ false)
-    go true b e = absurd (true≢false e)
-    go false b e = (refl, e)
-
--- it has neither initializer nor annotations
 module _ (text : List ℕ) (b p : ℕ) (st : State) (t u : List ℕ) where
-  pub no_initializer : eqb st.kind 45 ≡ false → done st t u ≡ initializer_in text b p st t u
-  unfolding initializer_in
-  no_initializer h = rw h
+  pub throws_is : throws_in text b p st t u ≡ cond (eqb (code_of st) 12) (after (advance_in text st t u) (fields_in text 40 41 16 b p)) (done st t u)
+  unfolding throws_in advance_in after
+  throws_is = refl
 
-  pub no_annotations_law : eqb st.kind 40 ≡ false → done st t u ≡ annotations_in text b p st t u
-  unfolding annotations_in
-  no_annotations_law h = rw h
+  pub return_type_is : return_type_in text b p st t u ≡ cond (eqb (code_of st) 15) (after (advance_in text st t u) (leaf_in 18 b p)) (type_in text 32 b p st t u)
+  unfolding return_type_in advance_in after
+  return_type_is = refl
 
-pub member_is : (text : List ℕ) (b : ℕ) (p : ℕ) (st : State) (t u : List ℕ) → member_in text b p st t u ≡
-    after (own_in st.next (opened st) t u) (name_in text 19 b st.next ⨟ λ st₁ t u. after (initializer_in text b st.next st₁ t u) (annotations_in text b st.next ⨟ node_in st.next 13 0 st₁.last.start b p))
-unfolding member_in
-member_is text b p st t u = refl
+  pub function_head_is : function_head_in text b p st t u ≡ after (skip_oneway_in text st t u) (return_type_in text b p ⨟ name_in text 2 b p)
+  unfolding function_head_in skip_oneway_in after
+  function_head_is = refl
 
-pub enum_members_is : (text : List ℕ) (b : ℕ) (p : ℕ) (st : State) (t u : List ℕ) → enum_members_in text b p st t u ≡
-    (members_in text 34 35 (member_in text b p)) st t u
-unfolding enum_members_in
-enum_members_is text b p st t u = refl
+  pub function_is : function_in text b p st t u ≡
+      after (begin_node_in st t u) (function_head_in text b st.next ⨟ λ st₁ t u. after (fields_in text 40 41 0 b st.next st₁ t u) (λ st₂ t u. after (function_tail_in text b st.next st₂ t u) (node_in st.next 11 (sum (flag_if (code_of st) 50 4) (flag_if (code_of st₂) 12 8)) st₁.last.start b p)))
+  unfolding function_in begin_node_in open_in after
+  function_is = refl
+
+  pub initializer_is : initializer_in text b p st t u ≡
+      cond (eqb (code_of st) 45) (after (advance_in text st t u) (λ st₁ t u. cond (eqb (code_of st₁) 31) (token_in text 31 6 27 b p st₁ t u) (token_in text 32 6 24 b p st₁ t u))) (done st t u)
+  unfolding initializer_in advance_in after
+  initializer_is = refl
+
+  pub member_is : member_in text b p st t u ≡
+      after (begin_node_in st t u) (name_in text 19 b st.next ⨟ λ st₁ t u. after (initializer_in text b st.next st₁ t u) (annotations_in text b st.next ⨟ node_in st.next 13 0 st₁.last.start b p))
+  unfolding member_in begin_node_in open_in after
+  member_is = refl
+
+pub skip_oneway_is : (text : List ℕ) (st : State) (t u : List ℕ) → skip_oneway_in text st t u ≡ cond (eqb (code_of st) 50) (advance_in text st t u) (done st t u)
+unfolding skip_oneway_in skip_oneway advance_in
+skip_oneway_is text st t u = go (eqb (code_of st) 50)
+  where
+    go : (b : Bool) → done (cond b (advanced text st) st) t u ≡ cond b (done (advanced text st) t u) (done st t u)
+    go true = refl
+    go false = refl

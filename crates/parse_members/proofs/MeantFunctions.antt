@@ -51,7 +51,7 @@ use Rattle.parser.specs.Definitions.{
   parse_initializer,
   parse_enum_member,
 }
-use Rattle.steps.specs.Into.{done, after, ◌⨟◌, sum, opened, owns, node_in}
+use Rattle.steps.specs.Into.{code_of, done, after, ◌⨟◌, sum, opened, owns, node_in}
 use Rattle.parse_fields.specs.Into.{token_in, name_in, field_in, fields_in}
 use Rattle.parse_members.specs.Into.{throws_in, return_type_in, flag_if, skip_oneway, function_head_in, function_tail_in, function_in, initializer_in, member_in}
 use Rattle.parser.proofs.FirstToken.{type_missing}
@@ -135,15 +135,15 @@ module _ (text : List ℕ) (short : length text ≤ 65536) where
   either_by : (G : Lexeme → Tree) (j k : Token) (x y e : ℕ) → ((tok : Lexeme) → among (kind tok) (j ∷ []) ≡ true → leaf x tok ≡ G tok)
       → ((tok : Lexeme) → among (kind tok) (k ∷ []) ≡ true → leaf y tok ≡ G tok)
       → {i b p : ℕ} {fr : Frame} {f : Forest} {st : State} {t u : List ℕ} {s : St} → At text i b p fr f st t u s
-      → (z : Bool) → eqb st.kind (code k) ≡ z → peek (k ∷ []) s ≡ z
-      → Meant (Leaf G (suc i) b p fr f) (cond (eqb st.kind (code k)) (token_in text (code k) e y b p st t u) (token_in text (code j) e x b p st t u)) (want (j ∷ k ∷ []) e s)
+      → (z : Bool) → eqb (code_of st) (code k) ≡ z → peek (k ∷ []) s ≡ z
+      → Meant (Leaf G (suc i) b p fr f) (cond (eqb (code_of st) (code k)) (token_in text (code k) e y b p st t u) (token_in text (code j) e x b p st t u)) (want (j ∷ k ∷ []) e s)
   either_by G j k x y e hj hk {s = s} h true q w = rw (q, want_two j k e s true w) (two_m G k y e hk h)
   either_by G j k x y e hj hk {s = s} h false q w = rw (q, want_two j k e s false w) (two_m G j x e hj h)
 
   pub either_m : (G : Lexeme → Tree) (j k : Token) (x y e : ℕ) → ((tok : Lexeme) → among (kind tok) (j ∷ []) ≡ true → leaf x tok ≡ G tok)
       → ((tok : Lexeme) → among (kind tok) (k ∷ []) ≡ true → leaf y tok ≡ G tok)
       → {i b p : ℕ} {fr : Frame} {f : Forest} {st : State} {t u : List ℕ} {s : St} → At text i b p fr f st t u s
-      → Meant (Leaf G (suc i) b p fr f) (cond (eqb st.kind (code k)) (token_in text (code k) e y b p st t u) (token_in text (code j) e x b p st t u)) (want (j ∷ k ∷ []) e s)
+      → Meant (Leaf G (suc i) b p fr f) (cond (eqb (code_of st) (code k)) (token_in text (code k) e y b p st t u) (token_in text (code j) e x b p st t u)) (want (j ∷ k ∷ []) e s)
   either_m G j k x y e hj hk {s = s} h = either_by G j k x y e hj hk h (peek (k ∷ []) s) (tested s (one_test k) h.ahead) refl
 
   -- ---- functions
@@ -160,14 +160,14 @@ module _ (text : List ℕ) (short : length text ≤ 65536) where
     flagged : flag_if k w v ≡ flag a
 
   throws_m : {i b p : ℕ} {fr : Frame} {f : Forest} {st : State} {t u : List ℕ} {s : St} → At text (suc i) b p fr f st t u s
-      → Meant (Flagged (λ th. throws_trees th bare) throws_flag st.kind 12 8 (suc i) b p fr f) (throws_in text b p st t u) (parse_throws s)
+      → Meant (Flagged (λ th. throws_trees th bare) throws_flag (code_of st) 12 8 (suc i) b p fr f) (throws_in text b p st t u) (parse_throws s)
   unfolding throws_in parse_throws code throws_trees throws_flag
   throws_m {b = b} {p = p} {f = f} {st = st} {s = s} h =
       one_m text short T.Throws _ _ s h
       (λ e. here_m {k = fields_in text 40 41 16 b p} (step_m text short (T.Throws ∷ []) s e h) λ x st₁ t₁ u₁ s₁ h₁.
       last_m (parameters_m 16 (omega arith) h₁.at) λ fs st₂ t₂ u₂ s₂ h₂.
-      went (record { at = less (less h₂); flagged = flag_if_law st.kind 12 8 true (tested s (one_test T.Throws) h.ahead ∙ e) }))
-      (λ e. went (record { at = regrown (sym (plus_bare f)) h; flagged = flag_if_law st.kind 12 8 false (tested s (one_test T.Throws) h.ahead ∙ e) }))
+      went (record { at = less (less h₂); flagged = flag_if_law (code_of st) 12 8 true (tested s (one_test T.Throws) h.ahead ∙ e) }))
+      (λ e. went (record { at = regrown (sym (plus_bare f)) h; flagged = flag_if_law (code_of st) 12 8 false (tested s (one_test T.Throws) h.ahead ∙ e) }))
 
   return_type_m : {i b p : ℕ} {fr : Frame} {f : Forest} {st : State} {t u : List ℕ} {s : St} → At text i b p fr f st t u s
       → Meant (λ a. At text i b p fr (f ⊕ single (type_tree a))) (return_type_in text b p st t u) (parse_return_type s)
@@ -179,16 +179,16 @@ module _ (text : List ℕ) (short : length text ≤ 65536) where
       (λ e. needs_m MissingTypeDeclaration InvalidReturnType parse_type s type_missing (type_m text short 32 h))
 
   oneway_by_law : {i b p : ℕ} {fr : Frame} {f : Forest} {st : State} {t u : List ℕ} {s : St} → At text i b p fr f st t u s
-      → (z : Bool) → eqb st.kind 50 ≡ z → peek (T.Oneway ∷ []) s ≡ z
-      → Meant (Flagged (λ o. bare) oneway_flag st.kind 50 4 i b p fr f) (done (skip_oneway text st) t u) (parse_oneway s)
+      → (z : Bool) → eqb (code_of st) 50 ≡ z → peek (T.Oneway ∷ []) s ≡ z
+      → Meant (Flagged (λ o. bare) oneway_flag (code_of st) 50 4 i b p fr f) (done (skip_oneway text st) t u) (parse_oneway s)
   unfolding skip_oneway parse_oneway when test oneway_flag
   oneway_by_law {f = f} {st = st} {s = s} h true k e =
       rw (k, e) (last_m (step_m text short (T.Oneway ∷ []) s e h) λ x st₁ t₁ u₁ s₁ h₁.
-      went (record { at = regrown (sym (plus_bare f)) (less (less h₁.at)); flagged = flag_if_law st.kind 50 4 true k }))
-  oneway_by_law {f = f} {st = st} h false k e = rw (k, e) (went (record { at = regrown (sym (plus_bare f)) h; flagged = flag_if_law st.kind 50 4 false k }))
+      went (record { at = regrown (sym (plus_bare f)) (less (less h₁.at)); flagged = flag_if_law (code_of st) 50 4 true k }))
+  oneway_by_law {f = f} {st = st} h false k e = rw (k, e) (went (record { at = regrown (sym (plus_bare f)) h; flagged = flag_if_law (code_of st) 50 4 false k }))
 
   oneway_m : {i b p : ℕ} {fr : Frame} {f : Forest} {st : State} {t u : List ℕ} {s : St} → At text i b p fr f st t u s
-      → Meant (Flagged (λ o. bare) oneway_flag st.kind 50 4 i b p fr f) (done (skip_oneway text st) t u) (parse_oneway s)
+      → Meant (Flagged (λ o. bare) oneway_flag (code_of st) 50 4 i b p fr f) (done (skip_oneway text st) t u) (parse_oneway s)
   unfolding code
   oneway_m {s = s} h = oneway_by_law h (peek (T.Oneway ∷ []) s) (tested s (one_test T.Oneway) h.ahead) refl
 
@@ -201,7 +201,7 @@ module _ (text : List ℕ) (short : length text ≤ 65536) where
       (owning st t u _
       (grouped _ _ _
       (here_m {k = return_type_in text b n ⨟ (name_in text 2 b n ⨟ λ st₁ t u. after (fields_in text 40 41 0 b n st₁ t u) (λ st₂ t u. after (function_tail_in text b n st₂ t u)
-      (node_in n 11 (sum (flag_if st.kind 50 4) (flag_if st₂.kind 12 8)) st₁.last.start b p)))} (oneway_m (own_at s h)) λ o st₁ t₁ u₁ s₁ h₁.
+      (node_in n 11 (sum (flag_if (code_of st) 50 4) (flag_if (code_of st₂) 12 8)) st₁.last.start b p)))} (oneway_m (own_at s h)) λ o st₁ t₁ u₁ s₁ h₁.
       bind_m (return_type_m h₁.at) λ y st₂ t₂ u₂ s₂ h₂.
       bind_m (name_m text short 2 h₂) λ m st₃ t₃ u₃ s₃ h₃.
       bind_m (parameters_m 0 (omega arith) h₃.at) λ ps st₄ t₄ u₄ s₄ h₄.
@@ -211,9 +211,9 @@ module _ (text : List ℕ) (short : length text ≤ 65536) where
       (bind_m (trivia_m text short _ h₅.at) λ x st₆ t₆ u₆ s₆ h₆.
       bind_m (annotations_m text short h₆) λ a st₇ t₇ u₇ s₇ h₇. here_in s₇ _
       (let l = span (place m) (last_of s₇) in
-      let k = sum (flag_if st.kind 50 4) (flag_if st₄.kind 12 8) in
+      let k = sum (flag_if (code_of st) 50 4) (flag_if (code_of st₄) 12 8) in
       let z : k ≡ oneway_flag o + throws_flag th =
-      small_sum (flag_if st.kind 50 4) (flag_if st₄.kind 12 8) (omega (arith, h₁.flagged, h₅.flagged, flags_small o th)) ∙ omega (arith, h₁.flagged, h₅.flagged) in
+      small_sum (flag_if (code_of st) 50 4) (flag_if (code_of st₄) 12 8) (omega (arith, h₁.flagged, h₅.flagged, flags_small o th)) ∙ omega (arith, h₁.flagged, h₅.flagged) in
       went
       (regrown (ap (λ (x : Tree). f ⊕ single x) (function_node k l (waiting_of s) o y m ps th a z))
       (finish_at 11 k (place m) st₃.last.start [] (waiting_of s) h h₇ (ap (λ (l : LOC). l.start) (h₃.at.last ∙ h₃.there))))))))))
@@ -225,7 +225,7 @@ module _ (text : List ℕ) (short : length text ≤ 65536) where
   unfolding initializer_in parse_initializer code perhaps single value_kind is
   initializer_m {b = b} {p = p} {f = f} {s = s} h =
       one_m text short T.Equals _ _ s h
-      (λ e. here_m {k = λ st t u. cond (eqb st.kind 31) (token_in text 31 6 27 b p st t u) (token_in text 32 6 24 b p st t u)}
+      (λ e. here_m {k = λ st t u. cond (eqb (code_of st) 31) (token_in text 31 6 27 b p st t u) (token_in text 32 6 24 b p st t u)}
       (step_m text short (T.Equals ∷ []) s e h) λ x st₁ t₁ u₁ s₁ h₁.
       last_m (either_m literal_tree T.IntegerLiteral T.HexLiteral 24 27 6 (λ tok. literal_of T.IntegerLiteral 24 tok refl)
       (λ tok. literal_of T.HexLiteral 27 tok refl) h₁.at) λ v st₂ t₂ u₂ s₂ h₂.

@@ -1,142 +1,109 @@
 // Functions.
 ghost use Rattle.std.specs.Prelude.{◌≡◌};
-ghost use Rattle.steps.specs.Into.{Lent, Reads, Quiet};
-ghost use Rattle.parse_members.specs.Into.{throws_in, return_type_in, flag_if, skip_oneway, function_head_in, function_tail_in, function_in, functions_in};
+ghost use Rattle.token.specs.Code.{code};
+ghost use Rattle.steps.specs.Into.{code_of};
+ghost use Rattle.steps.specs.Reads.{Does, Reads};
+ghost use Rattle.parse_members.specs.Into.{throws_in, return_type_in, flag_if, skip_oneway_in, function_head_in, function_tail_in, function_in, functions_in};
 
 use ast::flag;
+use ast::kind::Kind;
 use lexer::error::ErrorKind;
 use parse_fields::{annotations, fields};
 use parse_values::types;
 use parser::NESTING;
-use steps::state::{Parent, Parsed, State};
+use steps::state::{Node, Parsed, Parser};
 use steps::table;
+use token::Token;
 
 // The thrown fields, if `throws` is written.
 // Throws ::= 'throws' '(' Field* ')'
-fn parse_throws(
-    text: &[u8],
-    st: State,
-    parent: Parent,
-    rest: &mut [u32],
-    comments: &mut [u32],
-) -> Parsed
-    requires { Lent text.now }
-    ensures { Reads (throws_in text.now parent.base parent.node) st result rest.old rest.new comments.old comments.new }
+fn parse_throws(p: &mut Parser, parent: u32) -> Parsed
+    ensures { Reads (λ x. throws_in x.text x.base parent) p.old p.new result }
 {
-    if st.kind != token::kind::THROWS {
-        return Ok(st);
+    if !p.is(Token::Throws) {
+        return Ok(());
     }
-    let state = st.advance(text);
-    fields::parse_fields(text, state, fields::THROWN, parent, rest, comments)
+    p.advance();
+    fields::parse_fields(p, fields::THROWN, parent)
 }
 
 // `void`, or a type.
 // ReturnType ::= 'void' | Type
-fn parse_return_type(text: &[u8], st: State, parent: Parent, rest: &mut [u32]) -> Parsed
-    requires { Lent text.now }
-    ensures { Quiet (return_type_in text.now parent.base parent.node) st result rest.old rest.new }
+fn parse_return_type(p: &mut Parser, parent: u32) -> Parsed
+    ensures { Reads (λ x. return_type_in x.text x.base parent) p.old p.new result }
 {
-    if st.kind != token::kind::VOID {
-        return types::parse_type(text, st, NESTING, parent, rest);
+    if !p.is(Token::Void) {
+        return types::parse_type(p, NESTING, parent);
     }
-    let state = st.advance(text);
-    Ok(state.put_leaf(rest, ast::kind::KEYWORD_TYPE, parent))
+    p.advance();
+    p.put_leaf(Kind::KeywordType, parent);
+    Ok(())
 }
 
 // The flag of a kind, if the token ahead is of it.
-fn flag_if(ahead: u32, kind: u32, flag: u32) -> u32
-    ensures { result ≡ flag_if ahead kind flag }
+fn flag_if(p: &Parser, token: Token, flag: u32) -> u32
+    ensures { result ≡ flag_if (code_of p.now.state) (code token) flag }
 {
-    if ahead == kind { flag } else { 0 }
+    if p.is(token) { flag } else { 0 }
 }
 
 // Past `oneway`, if it is there.
-fn skip_oneway(text: &[u8], st: State) -> State
-    requires { Lent text.now }
-    ensures { result ≡ skip_oneway text.now st }
+fn skip_oneway(p: &mut Parser)
+    ensures { Does (λ x. skip_oneway_in x.text) p.old p.new }
 {
-    if st.kind != token::kind::ONEWAY {
-        return st;
+    if p.is(Token::Oneway) {
+        p.advance();
     }
-    st.advance(text)
 }
 
 // The return type and the name of a function.
-fn parse_function_head(text: &[u8], st: State, parent: Parent, rest: &mut [u32]) -> Parsed
-    requires { Lent text.now }
-    ensures { Quiet (function_head_in text.now parent.base parent.node) st result rest.old rest.new }
+fn parse_function_head(p: &mut Parser, parent: u32) -> Parsed
+    ensures { Reads (λ x. function_head_in x.text x.base parent) p.old p.new result }
 {
-    let begun = skip_oneway(text, st);
-    let typed = parse_return_type(text, begun, parent, rest)?;
-    parse_fields::parse_name(text, typed, ErrorKind::UnexpectedToken, parent, rest)
+    skip_oneway(p);
+    parse_return_type(p, parent)?;
+    parse_fields::parse_name(p, ErrorKind::UnexpectedToken, parent)
 }
 
 // What stands behind the parameters: thrown fields; separators and comments; annotations.
-fn parse_function_tail(
-    text: &[u8],
-    st: State,
-    parent: Parent,
-    rest: &mut [u32],
-    comments: &mut [u32],
-) -> Parsed
-    requires { Lent text.now }
-    ensures { Reads (function_tail_in text.now parent.base parent.node) st result rest.old rest.new comments.old comments.new }
+fn parse_function_tail(p: &mut Parser, parent: u32) -> Parsed
+    ensures { Reads (λ x. function_tail_in x.text x.base parent) p.old p.new result }
 {
-    let behind = parse_throws(text, st, parent, rest, comments)?;
-    let state = behind.skip_comments(text, true, comments);
-    annotations::parse_annotations(text, state, parent, rest)
+    parse_throws(p, parent)?;
+    p.skip_comments(true);
+    annotations::parse_annotations(p, parent)
 }
 
 // parse_function: its range starts at its name.
 // Function ::= 'oneway'? ReturnType name '(' Field* ')' Throws? (Separator | Comment)* Annotations?
-fn parse_function(
-    text: &[u8],
-    st: State,
-    parent: Parent,
-    rest: &mut [u32],
-    comments: &mut [u32],
-) -> Parsed
-    requires { Lent text.now }
-    ensures { Reads (function_in text.now parent.base parent.node) st result rest.old rest.new comments.old comments.new }
+fn parse_function(p: &mut Parser, parent: u32) -> Parsed
+    ensures { Reads (λ x. function_in x.text x.base parent) p.old p.new result }
 {
-    let under = Parent {
-        base: parent.base,
-        node: st.next,
+    let number = p.state.next;
+    let oneway = flag_if(p, Token::Oneway, flag::ONEWAY);
+    p.begin_node();
+    parse_function_head(p, number)?;
+    let function = Node {
+        number,
+        start: p.state.last.start,
     };
-    let first = st.open().own(st.next, comments);
-    let named = parse_function_head(text, first, under, rest)?;
-    let behind = fields::parse_fields(text, named, fields::PARAMETERS, under, rest, comments)?;
-    let state = parse_function_tail(text, behind, under, rest, comments)?;
-    let flags = table::sum(
-        flag_if(st.kind, token::kind::ONEWAY, flag::ONEWAY),
-        flag_if(behind.kind, token::kind::THROWS, flag::THROWS),
-    );
-    let name = named.last;
-    let start = name.start;
-    state.put_node(rest, st.next, ast::kind::FUNCTION, flags, start, parent);
-    Ok(state)
+    fields::parse_fields(p, fields::PARAMETERS, number)?;
+    let throws = flag_if(p, Token::Throws, flag::THROWS);
+    parse_function_tail(p, number)?;
+    p.put_node(function, Kind::Function, table::sum(oneway, throws), parent);
+    Ok(())
 }
 
-// The functions of a service, in braces.
-// '{' (Separator* Comment* Function)* Separator* Comment* '}'
-pub fn parse_functions(
-    text: &[u8],
-    st: State,
-    parent: Parent,
-    rest: &mut [u32],
-    comments: &mut [u32],
-) -> Parsed
-    requires { Lent text.now }
-    ensures { Reads (functions_in text.now parent.base parent.node) st result rest.old rest.new comments.old comments.new }
+// The functions of a service, in braces: another member reader in `parse_between`, as for an enum's members.
+pub fn parse_functions(p: &mut Parser, parent: u32) -> Parsed
+    ensures { Reads (λ x. functions_in x.text x.base parent) p.old p.new result }
 {
-    let inside = st.expect(text, token::kind::LEFT_BRACE, ErrorKind::UnexpectedToken)?;
-    let mut state = inside;
-    loop {
-        let over = state.skip(text, true);
-        let found = over.skip_comments(text, false, comments);
-        if found.kind == token::kind::RIGHT_BRACE {
-            return found.take(text);
-        }
-        state = parse_function(text, found, parent, rest, comments)?;
-    }
+    fields::parse_between(
+        p,
+        Token::LeftBrace,
+        Token::RightBrace,
+        |p: &mut Parser| -> Parsed
+            ensures { Reads (λ x. function_in x.text x.base parent) p.entry.now p.exit.now result }
+        { parse_function(p, parent) },
+    )
 }

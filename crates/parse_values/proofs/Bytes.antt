@@ -7,24 +7,8 @@ use Prim.Native.Nat.{ℕ, zero, suc}
 use native.Mathlib.Omega.{arith}
 use lib.Dec.{eqb}
 use Rattle.steps.specs.declared.state.State.{State}
-use Rattle.steps.specs.Into.{M, closes_at, take_in}
-use Rattle.steps.proofs.Bytes.{
-  Falls,
-  Rests,
-  weak_w,
-  after_w,
-  cond_w,
-  falls_rests,
-  fall_rest,
-  rest_rest,
-  refused_w,
-  take_falls,
-  expect_falls,
-  leaf_rests,
-  node_rests,
-  opened_w,
-  skip_rests,
-}
+use Rattle.steps.specs.Into.{Falls, Rests, code_of, M, closes_at, take_in}
+use Rattle.steps.proofs.Bytes.{weak_w, after_w, cond_w, falls_rests, fall_rest, rest_rest, refused_w, take_falls, expect_falls, leaf_rests, node_rests, opened_w, skip_rests}
 use Rattle.steps.proofs.LoopForms.{loop_rests}
 use Rattle.parse_values.specs.Into.{
   leaf_type,
@@ -62,12 +46,12 @@ module _ (text : List ℕ) where
   unfolding type_by
   type_by_falls inside f b p st t u =
       after_w (take_falls text st t u) λ st₁ t₁ u₁ h. weak_w (λ n i. omega arith)
-      (cond_w (eqb (leaf_type st.kind) 0) (cond_w (eqb (container_type st.kind) 0) (refused_w 4 st) (f st (container_type st.kind) st₁ t₁ u₁))
-      (leaf_rests text (leaf_type st.kind) b p st₁ t₁ u₁))
+      (cond_w (eqb (leaf_type (code_of st)) 0) (cond_w (eqb (container_type (code_of st)) 0) (refused_w 4 st _ _) (f st (container_type (code_of st)) st₁ t₁ u₁))
+      (leaf_rests text (leaf_type (code_of st)) b p st₁ t₁ u₁))
 
   pub type_falls : (d b p : ℕ) → Falls text (type_in text d b p)
   unfolding type_in
-  type_falls zero b p = type_by_falls _ (λ st k st₁ t u. refused_w 23 st) b p
+  type_falls zero b p = type_by_falls _ (λ st k st₁ t u. refused_w 23 st _ _) b p
   type_falls (suc d) b p = type_by_falls _ (λ st k. complex_rests k _ (λ q. type_falls d b q) b p) b p
 
   -- ---- values
@@ -99,12 +83,12 @@ module _ (text : List ℕ) where
   unfolding value_by
   value_by_falls inside f b p st t u =
       after_w (take_falls text st t u) λ st₁ t₁ u₁ h. weak_w (λ n i. omega arith)
-      (cond_w (eqb (leaf_value st.kind) 0) (cond_w (is_opener st.kind) (f st st₁ t₁ u₁) (refused_w 6 st))
-      (leaf_rests text (leaf_value st.kind) b p st₁ t₁ u₁))
+      (cond_w (eqb (leaf_value (code_of st)) 0) (cond_w (is_opener (code_of st)) (f st st₁ t₁ u₁) (refused_w 6 st _ _))
+      (leaf_rests text (leaf_value (code_of st)) b p st₁ t₁ u₁))
 
   pub value_falls : (d b p : ℕ) → Falls text (value_in text d b p)
   unfolding value_in
-  value_falls zero b p = value_by_falls _ (λ st st₁ t u. refused_w 23 st) b p
+  value_falls zero b p = value_by_falls _ (λ st st₁ t u. refused_w 23 st _ _) b p
   value_falls (suc d) b p =
       value_by_falls _
-      (λ st st₁ t u. cond_w (eqb st.kind 36) (list_rests _ (λ q. value_falls d b q) b p st₁ t u) (map_rests _ (λ q. value_falls d b q) b p st₁ t u)) b p
+      (λ st st₁ t u. cond_w (eqb (code_of st) 36) (list_rests _ (λ q. value_falls d b q) b p st₁ t u) (map_rests _ (λ q. value_falls d b q) b p st₁ t u)) b p

@@ -1,6 +1,5 @@
 pub mod Bytes
-pub mod ContainerForms
-pub mod ListForms
+pub mod Forms
 pub mod KindTests
 pub mod MeantTypes
 pub mod MeantValues

@@ -19,7 +19,7 @@ use Rattle.parser.proofs.TypeStep.{type_step}
 use Rattle.parser.specs.Steps.{kind, place, span, St, MissingTypeDeclaration, P, test, refuse}
 use Rattle.parser.specs.Types as D
 use Rattle.parser.specs.Types.{leaf_types, container_types, complex_type, map_type, field_type}
-use Rattle.steps.specs.Into.{M, leaf_in, node_in}
+use Rattle.steps.specs.Into.{code_of, M, leaf_in, node_in}
 use Rattle.parse_values.specs.Into.{leaf_type, container_type, contained_in, complex_in, type_by, type_in}
 use Rattle.parse_values.proofs.KindTests.{leaf_type_none, leaf_type_law, container_type_none, container_type_law}
 use Rattle.steps.proofs.ForestLaws.{◌⊕◌}
@@ -77,9 +77,9 @@ module _ (text : List ℕ) (short : length text ≤ 65536) where
 
   -- a type by its first token; `inside` reads a container
   type_by_m : (b p : ℕ) (m : State → ℕ → M) (q : Lexeme → P FieldType) {i : ℕ} {fr : Frame} {f : Forest} {st : State} {t u : List ℕ} {s : St}
-      → ((tok : Lexeme) (st₁ : State) (t u : List ℕ) (s : St) → First text st.kind st.loc tok → among (kind tok) container_types ≡ true
+      → ((tok : Lexeme) (st₁ : State) (t u : List ℕ) (s : St) → First text (code_of st) st.loc tok → among (kind tok) container_types ≡ true
       → At text (suc (suc i)) b p fr f st₁ t u s → last_of s ≡ place tok
-      → Meant (λ a. At text i b p fr (f ⊕ single (type_tree a))) (m st (container_type st.kind) st₁ t u) (q tok s))
+      → Meant (λ a. At text i b p fr (f ⊕ single (type_tree a))) (m st (container_type (code_of st)) st₁ t u) (q tok s))
       → At text i b p fr f st t u s → Meant (λ a. At text i b p fr (f ⊕ single (type_tree a))) (type_by text m b p st t u) (D.type_by q s)
   unfolding type_by D.type_by leaf_in
   type_by_m b p m q {f = f} {st = st} {s = s} insides h =
@@ -89,18 +89,18 @@ module _ (text : List ℕ) (short : length text ≤ 65536) where
       unless_m _ _ s₁ _ (among (kind tok) leaf_types) (ap (λ (n : ℕ). eqb (leaf_type n) 0) c ∙ leaf_type_none (kind tok))
       (λ y. went (less
       (regrown (ap (λ (z : Tree). f ⊕ single z) (ap (λ (n : ℕ). leaf n tok) (ap leaf_type c ∙ leaf_type_law (kind tok) y) ∙ common_tree tok))
-      (leaf_at (leaf_type st.kind) tok h₁.at h₁.there))))
+      (leaf_at (leaf_type (code_of st)) tok h₁.at h₁.there))))
       (λ y. unless_m _ _ s₁ _ (among (kind tok) container_types) (ap (λ (n : ℕ). eqb (container_type n) 0) c ∙ container_type_none (kind tok))
       (λ z. insides tok st₁ t₁ u₁ s₁ h₁.first z h₁.at h₁.there)
-      (λ z. refuse_at_m 4 st tok s₁ h₁.first)))
+      (λ z. refuse_at_m 4 st tok s₁ _ _ h₁.first)))
 
   pub type_m : (d : ℕ) {i b p : ℕ} {fr : Frame} {f : Forest} {st : State} {t u : List ℕ} {s : St} → At text i b p fr f st t u s
       → Meant (λ a. At text i b p fr (f ⊕ single (type_tree a))) (type_in text d b p st t u) (field_type d s)
   unfolding type_in field_type
-  type_m zero {b = b} {p = p} {st = st} h = type_by_m b p _ (refuse 23) (λ tok st₁ t u s g z a e. refuse_at_m 23 st tok s g) h
+  type_m zero {b = b} {p = p} {st = st} h = type_by_m b p _ (refuse 23) (λ tok st₁ t u s g z a e. refuse_at_m 23 st tok s _ _ g) h
   type_m (suc d) {b = b} {p = p} {st = st} h =
       type_by_m b p _ (D.container_type (field_type d))
       (λ tok st₁ t u s g z a e.
-      container_m b p (field_type d) (λ q. type_in text d b q) (λ i p fr f st t u s h. type_m d h) tok (container_type st.kind)
+      container_m b p (field_type d) (λ q. type_in text d b q) (λ i p fr f st t u s h. type_m d h) tok (container_type (code_of st))
       (ap container_type g.coded ∙ container_type_law (kind tok) z) a e)
       h

@@ -17,14 +17,13 @@ use Rattle.steps.specs.declared.state.State.{State}
 use Rattle.parser.specs.Steps.{kind, place, St, P, refuse}
 use Rattle.parser.specs.Values as D
 use Rattle.parser.specs.Values.{leaf_values, openers, values_end, Property, property, map_property, list_value, map_value, container_value, field_value}
-use Rattle.steps.specs.Into.{M, leaf_in, node_in, take_in, closes_at, start_at}
+use Rattle.steps.specs.Into.{Falls, code_of, M, leaf_in, node_in, take_in, closes_at, start_at}
 use Rattle.parse_values.specs.Into.{leaf_value, skip_both_in, elements_in, list_in, property_in, properties_in, map_in, is_opener, value_by, value_in}
 use Rattle.parse_values.proofs.Bytes.{both_rests, property_falls, value_falls}
 use Rattle.parse_values.proofs.KindTests.{leaf_value_none, leaf_value_law, opener_test}
 use Rattle.steps.proofs.ForestLaws.{◌⊕◌}
 use Rattle.parser.proofs.Paid.{property_tree}
 use Rattle.steps.proofs.Seen.{First, last_of, Frame, At, less, regrown, Meant, went, bind_m, cond_m, unless_m, Means}
-use Rattle.steps.proofs.Bytes.{Falls}
 use Rattle.steps.proofs.StepLaws.{take_m, expect_m, refuse_at_m, here_in, start_in, start_at_law, start_of}
 use Rattle.steps.proofs.SkipLaws.{separators_m, discard_m}
 use Rattle.steps.proofs.NodeLaws.{open_at, finish_at, leaf_at, Turn, turn_after, turn_last, closed_turn, loop_m}
@@ -81,7 +80,7 @@ module _ (text : List ℕ) (short : length text ≤ 65536) where
 
   -- a value by its first token; `inside` reads a container
   value_by_m : (b p : ℕ) (m : State → M) (q : Lexeme → P FieldInitialValue) {i : ℕ} {fr : Frame} {f : Forest} {st : State} {t u : List ℕ} {s : St}
-      → ((tok : Lexeme) (st₁ : State) (t u : List ℕ) (s : St) → First text st.kind st.loc tok
+      → ((tok : Lexeme) (st₁ : State) (t u : List ℕ) (s : St) → First text (code_of st) st.loc tok
       → At text (suc (suc i)) b p fr f st₁ t u s → last_of s ≡ place tok
       → Meant (λ a. At text i b p fr (f ⊕ single (value_tree a))) (m st st₁ t u) (q tok s))
       → At text i b p fr f st t u s → Meant (λ a. At text i b p fr (f ⊕ single (value_tree a))) (value_by text m b p st t u) (D.value_by q s)
@@ -92,16 +91,16 @@ module _ (text : List ℕ) (short : length text ≤ 65536) where
       unless_m _ _ s₁ _ (among (kind tok) leaf_values) (ap (λ (n : ℕ). eqb (leaf_value n) 0) c ∙ leaf_value_none (kind tok))
       (λ y. went (less
       (regrown (ap (λ (z : Tree). f ⊕ single z) (ap (λ (n : ℕ). leaf n tok) (ap leaf_value c ∙ leaf_value_law (kind tok) y) ∙ literal_tree_law tok))
-      (leaf_at (leaf_value st.kind) tok h₁.at h₁.there))))
+      (leaf_at (leaf_value (code_of st)) tok h₁.at h₁.there))))
       (λ y. cond_m _ _ s₁ _ (among (kind tok) openers) (ap is_opener c ∙ opener_test.agrees (kind tok))
       (λ z. insides tok st₁ t₁ u₁ s₁ h₁.first h₁.at h₁.there)
-      (λ z. refuse_at_m 6 st tok s₁ h₁.first))
+      (λ z. refuse_at_m 6 st tok s₁ _ _ h₁.first))
 
   pub value_m : (d : ℕ) {i b p : ℕ} {fr : Frame} {f : Forest} {st : State} {t u : List ℕ} {s : St} → At text i b p fr f st t u s
       → Meant (λ a. At text i b p fr (f ⊕ single (value_tree a))) (value_in text d b p st t u) (field_value d s)
   unfolding value_in field_value
-  value_m zero {b = b} {p = p} {st = st} h = value_by_m b p _ (refuse 23) (λ tok st₁ t u s g a e. refuse_at_m 23 st tok s g) h
+  value_m zero {b = b} {p = p} {st = st} h = value_by_m b p _ (refuse 23) (λ tok st₁ t u s g a e. refuse_at_m 23 st tok s _ _ g) h
   value_m (suc d) {b = b} {p = p} {st = st} h =
       value_by_m b p _ (container_value (field_value d))
-      (λ tok st₁ t u s g a e. container_m b (field_value d) (λ q. value_in text d b q) (λ q. value_falls text d b q) (λ i p fr f st t u s h. value_m d h) tok st.kind g.coded a e)
+      (λ tok st₁ t u s g a e. container_m b (field_value d) (λ q. value_in text d b q) (λ q. value_falls text d b q) (λ i p fr f st t u s h. value_m d h) tok (code_of st) g.coded a e)
       h

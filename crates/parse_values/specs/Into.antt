@@ -5,7 +5,7 @@ use Rattle.token.specs.Kind as T
 use Rattle.lexer.specs.Error as E
 use Rattle.ast.specs.Kind as K
 use Rattle.steps.specs.declared.state.State.{State}
-use Rattle.steps.specs.Into.{M, after, ◌⨟◌, opened, leaf_in, node_in, refused, start_at, take_in, expect_in, skip_in, loop_in, closes_at}
+use Rattle.steps.specs.Into.{code_of, M, after, ◌⨟◌, opened, leaf_in, node_in, refused, start_at, take_in, expect_in, skip_in, loop_in, closes_at}
 
 -- ---- types
 
@@ -18,6 +18,10 @@ container_type k = cond (eqb k T.Map) K.Map (cond (eqb k T.List) K.List (cond (e
 unfoldable pub contained_in : List ℕ → ℕ → M → M
 contained_in text k inner st t u = cond (eqb k K.Map) ((inner ⨟ (expect_in text T.Comma E.UnexpectedToken ⨟ inner)) st t u) (inner st t u)
 
+-- the contained type in angle brackets
+unfoldable pub angles_in : List ℕ → ℕ → M → M
+angles_in text k inner = expect_in text T.LeftAngle E.UnexpectedToken ⨟ (contained_in text k inner ⨟ expect_in text T.RightAngle E.UnexpectedToken)
+
 -- behind a container's keyword
 unfoldable pub complex_in : List ℕ → ℕ → (ℕ → M) → ℕ → ℕ → M
 complex_in text k inner b p st t u =
@@ -27,12 +31,12 @@ complex_in text k inner b p st t u =
 unfoldable pub type_by : List ℕ → (State → ℕ → M) → ℕ → ℕ → M
 type_by text inside b p st t u =
     after (take_in text st t u)
-    (λ st₁ t u. cond (eqb (leaf_type st.kind) 0) (cond (eqb (container_type st.kind) 0) (refused E.UnsupportedType st) (inside st (container_type st.kind) st₁ t u))
-    (leaf_in (leaf_type st.kind) b p st₁ t u))
+    (λ st₁ t u. cond (eqb (leaf_type (code_of st)) 0) (cond (eqb (container_type (code_of st)) 0) (refused E.UnsupportedType st t u) (inside st (container_type (code_of st)) st₁ t u))
+    (leaf_in (leaf_type (code_of st)) b p st₁ t u))
 
 -- with so many containers left
 unfoldable pub type_in : List ℕ → ℕ → ℕ → ℕ → M
-type_in text zero b p = type_by text (λ st k. λ st₁ t u. refused E.TooDeep st) b p
+type_in text zero b p = type_by text (λ st k. λ st₁ t u. refused E.TooDeep st t u) b p
 type_in text (suc d) b p = type_by text (λ st k. complex_in text k (λ q. type_in text d b q) b p) b p
 
 -- ---- values
@@ -58,6 +62,9 @@ property_in text value b p st t u =
     after (value st.next (opened st) t u)
     (expect_in text T.Colon E.UnexpectedToken ⨟ (value st.next ⨟ node_in st.next K.Property 0 (start_at st) b p))
 
+unfoldable pub pair_in : List ℕ → M → M
+pair_in text value = value ⨟ (expect_in text T.Colon E.UnexpectedToken ⨟ value)
+
 unfoldable pub properties_in : List ℕ → M → M
 properties_in text property = loop_in text (closes_at T.RightBrace) (skip_both_in text) (take_in text) property
 
@@ -71,10 +78,10 @@ is_opener k = eqb k T.LeftBrace || eqb k T.LeftBracket
 unfoldable pub value_by : List ℕ → (State → M) → ℕ → ℕ → M
 value_by text inside b p st t u =
     after (take_in text st t u)
-    (λ st₁ t u. cond (eqb (leaf_value st.kind) 0) (cond (is_opener st.kind) (inside st st₁ t u) (refused E.InvalidValueDeclaration st))
-    (leaf_in (leaf_value st.kind) b p st₁ t u))
+    (λ st₁ t u. cond (eqb (leaf_value (code_of st)) 0) (cond (is_opener (code_of st)) (inside st st₁ t u) (refused E.InvalidValueDeclaration st t u))
+    (leaf_in (leaf_value (code_of st)) b p st₁ t u))
 
 unfoldable pub value_in : List ℕ → ℕ → ℕ → ℕ → M
-value_in text zero b p = value_by text (λ st. λ st₁ t u. refused E.TooDeep st) b p
+value_in text zero b p = value_by text (λ st. λ st₁ t u. refused E.TooDeep st t u) b p
 value_in text (suc d) b p =
-    value_by text (λ st. λ st₁ t u. cond (eqb st.kind T.LeftBracket) (list_in text (λ q. value_in text d b q) b p st₁ t u) (map_in text (λ q. value_in text d b q) b p st₁ t u)) b p
+    value_by text (λ st. λ st₁ t u. cond (eqb (code_of st) T.LeftBracket) (list_in text (λ q. value_in text d b q) b p st₁ t u) (map_in text (λ q. value_in text d b q) b p st₁ t u)) b p

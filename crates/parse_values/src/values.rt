@@ -1,165 +1,159 @@
 // Constant values: rico's parser/values.rs.
 ghost use Rattle.std.specs.Prelude.{◌≡◌};
-ghost use Rattle.steps.specs.Into.{Lent, Quiet};
-ghost use Rattle.parse_values.specs.Into.{leaf_value, elements_in, list_in, property_in, properties_in, map_in, is_opener, value_in};
+ghost use Rattle.token.specs.Code.{code};
+ghost use Rattle.ast.specs.KindNumber.{number_or_none};
+ghost use Rattle.steps.specs.Reads.{Reads, Does};
+ghost use Rattle.parse_values.specs.Into.{leaf_value, is_opener, elements_in, list_in, pair_in, property_in, properties_in, map_in, skip_both_in, value_in};
 
+use ast::kind::Kind;
 use lexer::error::ErrorKind;
-use steps::state::{Parent, Parsed, State};
+use steps::state::{Parsed, Parser};
+use token::Token;
 
-// The record of a value that is one token; else 0.
-fn leaf_value(kind: u32) -> u32
-    ensures { result ≡ leaf_value kind }
+// The record of a value that is one token.
+fn leaf_value(token: Token) -> Option<Kind>
+    ensures { number_or_none result ≡ leaf_value (code token) }
 {
-    if kind == token::kind::IDENTIFIER {
-        return ast::kind::NAME_VALUE;
-    }
-    if kind == token::kind::STRING_LITERAL {
-        return ast::kind::STRING;
-    }
-    if kind == token::kind::DOUBLE_LITERAL {
-        return ast::kind::DOUBLE;
-    }
-    if kind == token::kind::HEX_LITERAL {
-        return ast::kind::HEX;
-    }
-    if kind == token::kind::INTEGER_LITERAL {
-        return ast::kind::INTEGER;
-    }
-    if kind == token::kind::BOOLEAN_LITERAL {
-        ast::kind::BOOLEAN
-    } else {
-        0
+    match token {
+        Token::Identifier => Some(Kind::NameValue),
+        Token::StringLiteral => Some(Kind::String),
+        Token::DoubleLiteral => Some(Kind::Double),
+        Token::HexLiteral => Some(Kind::Hex),
+        Token::IntegerLiteral => Some(Kind::Integer),
+        Token::BooleanLiteral => Some(Kind::Boolean),
+        _ => None,
     }
 }
 
 // A bracket or brace that opens a value.
-fn is_opener(kind: u32) -> bool
-    ensures { result ≡ is_opener kind }
+fn is_opener(token: Token) -> bool
+    ensures { result ≡ is_opener (code token) }
 {
-    if kind == token::kind::LEFT_BRACE {
-        return true;
+    match token {
+        Token::LeftBracket | Token::LeftBrace => true,
+        _ => false,
     }
-    kind == token::kind::LEFT_BRACKET
 }
 
 // parse_field_value with `depth` containers left: the next one inside is 23 at its bracket.
 // Value ::= string | integer | double | boolean | hex | name | List | Map
 #[cycle(values)]
-pub fn parse_value(text: &[u8], st: State, depth: u32, parent: Parent, rest: &mut [u32]) -> Parsed
-    requires { Lent text.now }
-    ensures { Quiet (value_in text.now depth parent.base parent.node) st result rest.old rest.new }
+pub fn parse_value(p: &mut Parser, depth: u32, parent: u32) -> Parsed
+    ensures { Reads (λ x. value_in x.text depth x.base parent) p.old p.new result }
 {
-    let state = st.take(text)?;
-    let leaf = leaf_value(st.kind);
-    if leaf != 0 {
-        return Ok(state.put_leaf(rest, leaf, parent));
+    let Some(token) = p.state.token else {
+        return Err(p.error(ErrorKind::UnexpectedEOF));
+    };
+    if let Some(kind) = leaf_value(token) {
+        p.advance();
+        p.put_leaf(kind, parent);
+        return Ok(());
     }
-    if !is_opener(st.kind) {
-        return st.refuse(ErrorKind::InvalidValueDeclaration);
+    if !is_opener(token) {
+        return Err(p.error(ErrorKind::InvalidValueDeclaration));
     }
     if depth == 0 {
-        return st.refuse(ErrorKind::TooDeep);
+        return Err(p.error(ErrorKind::TooDeep));
     }
-    if st.kind == token::kind::LEFT_BRACKET {
-        return parse_list_value(text, state, depth - 1, parent, rest);
+    p.advance();
+    match token {
+        Token::LeftBracket => parse_list_value(p, depth - 1, parent),
+        _ => parse_map_value(p, depth - 1, parent),
     }
-    parse_map_value(text, state, depth - 1, parent, rest)
 }
 
-// parse_list_value: behind the bracket.
+// parse_list_value: behind the bracket. Lists and maps have a reader each, which calls `parse_value` back (document 01).
+#[cycle(values)]
+fn parse_list_value(p: &mut Parser, depth: u32, parent: u32) -> Parsed
+    ensures { Reads (λ x. list_in x.text (λ q. value_in x.text depth x.base q) x.base parent) p.old p.new result }
+{
+    let start = p.state.last.start;
+    p.enclose(
+        start,
+        Kind::ListValue,
+        parent,
+        |p: &mut Parser, node: u32| -> Parsed
+            ensures { Reads (λ x. elements_in x.text (value_in x.text depth x.base node)) p.entry.now p.exit.now result }
+        { parse_elements(p, depth, node) },
+    )
+}
+
+// parse_map_value: behind the brace; apart from parse_list_value for the same reason.
+#[cycle(values)]
+fn parse_map_value(p: &mut Parser, depth: u32, parent: u32) -> Parsed
+    ensures { Reads (λ x. map_in x.text (λ q. value_in x.text depth x.base q) x.base parent) p.old p.new result }
+{
+    let start = p.state.last.start;
+    p.enclose(
+        start,
+        Kind::MapValue,
+        parent,
+        |p: &mut Parser, node: u32| -> Parsed
+            ensures { Reads (λ x. properties_in x.text (property_in x.text (λ q. value_in x.text depth x.base q) x.base node)) p.entry.now p.exit.now result }
+        { parse_properties(p, depth, node) },
+    )
+}
+
+// Separators and comments before an element or a property.
+fn skip_both(p: &mut Parser)
+    ensures { Does (λ x. skip_both_in x.text) p.old p.new }
+{
+    p.skip(true);
+    p.skip(false);
+}
+
+// The elements up to the closing bracket, and that.
 // List ::= '[' (Separator* Comment* Value)* Separator* Comment* ']'
 #[cycle(values)]
-fn parse_list_value(text: &[u8], st: State, depth: u32, parent: Parent, rest: &mut [u32]) -> Parsed
-    requires { Lent text.now }
-    ensures { Quiet (list_in text.now (λ q. value_in text.now depth parent.base q) parent.base parent.node) st result rest.old rest.new }
+fn parse_elements(p: &mut Parser, depth: u32, parent: u32) -> Parsed
+    ensures { Reads (λ x. elements_in x.text (value_in x.text depth x.base parent)) p.old p.new result }
 {
-    let under = Parent {
-        base: parent.base,
-        node: st.next,
-    };
-    let opened = st.open();
-    let state = parse_elements(text, opened, depth, under, rest)?;
-    let last = st.last;
-    let start = last.start;
-    state.put_node(rest, st.next, ast::kind::LIST_VALUE, 0, start, parent);
-    Ok(state)
-}
-
-// The elements up to the closing bracket, and that. An element of one token, the usual case, is read here: no call, no state copied.
-#[cycle(values)]
-fn parse_elements(text: &[u8], st: State, depth: u32, parent: Parent, rest: &mut [u32]) -> Parsed
-    requires { Lent text.now }
-    ensures { Quiet (elements_in text.now (value_in text.now depth parent.base parent.node)) st result rest.old rest.new }
-{
-    let mut state = st;
-    loop {
-        let over = state.skip_all(text, true);
-        let found = over.skip_all(text, false);
-        if found.kind == token::kind::RIGHT_BRACKET {
-            return found.take(text);
-        }
-        let leaf = leaf_value(found.kind);
-        if leaf != 0 {
-            let taken = found.advance(text);
-            state = taken.put_leaf(rest, leaf, parent);
-            continue;
-        }
-        state = parse_value(text, found, depth, parent, rest)?;
-    }
-}
-
-// parse_map_value: behind the brace.
-// Map ::= '{' (Separator* Comment* Property)* Separator* Comment* '}'
-#[cycle(values)]
-fn parse_map_value(text: &[u8], st: State, depth: u32, parent: Parent, rest: &mut [u32]) -> Parsed
-    requires { Lent text.now }
-    ensures { Quiet (map_in text.now (λ q. value_in text.now depth parent.base q) parent.base parent.node) st result rest.old rest.new }
-{
-    let under = Parent {
-        base: parent.base,
-        node: st.next,
-    };
-    let opened = st.open();
-    let state = parse_properties(text, opened, depth, under, rest)?;
-    let last = st.last;
-    let start = last.start;
-    state.put_node(rest, st.next, ast::kind::MAP_VALUE, 0, start, parent);
-    Ok(state)
+    p.parse_members(
+        Token::RightBracket,
+        skip_both,
+        |p: &mut Parser| -> Parsed
+            ensures { Reads (λ x. value_in x.text depth x.base parent) p.entry.now p.exit.now result }
+        { parse_value(p, depth, parent) },
+    )
 }
 
 // The properties up to the closing brace, and that.
+// Map ::= '{' (Separator* Comment* Property)* Separator* Comment* '}'
 #[cycle(values)]
-fn parse_properties(text: &[u8], st: State, depth: u32, parent: Parent, rest: &mut [u32]) -> Parsed
-    requires { Lent text.now }
-    ensures { Quiet (properties_in text.now (property_in text.now (λ q. value_in text.now depth parent.base q) parent.base parent.node)) st result rest.old rest.new }
+fn parse_properties(p: &mut Parser, depth: u32, parent: u32) -> Parsed
+    ensures { Reads (λ x. properties_in x.text (property_in x.text (λ q. value_in x.text depth x.base q) x.base parent)) p.old p.new result }
 {
-    let mut state = st;
-    loop {
-        let over = state.skip_all(text, true);
-        let found = over.skip_all(text, false);
-        if found.kind == token::kind::RIGHT_BRACE {
-            return found.take(text);
-        }
-        state = parse_property(text, found, depth, parent, rest)?;
-    }
+    p.parse_members(
+        Token::RightBrace,
+        skip_both,
+        |p: &mut Parser| -> Parsed
+            ensures { Reads (λ x. property_in x.text (λ q. value_in x.text depth x.base q) x.base parent) p.entry.now p.exit.now result }
+        { parse_property(p, depth, parent) },
+    )
 }
 
 // A property: two values with a colon between.
 // Property ::= Value ':' Value
 #[cycle(values)]
-fn parse_property(text: &[u8], st: State, depth: u32, parent: Parent, rest: &mut [u32]) -> Parsed
-    requires { Lent text.now }
-    ensures { Quiet (property_in text.now (λ q. value_in text.now depth parent.base q) parent.base parent.node) st result rest.old rest.new }
+fn parse_property(p: &mut Parser, depth: u32, parent: u32) -> Parsed
+    ensures { Reads (λ x. property_in x.text (λ q. value_in x.text depth x.base q) x.base parent) p.old p.new result }
 {
-    let under = Parent {
-        base: parent.base,
-        node: st.next,
-    };
-    let opened = st.open();
-    let key = parse_value(text, opened, depth, under, rest)?;
-    let behind = key.expect(text, token::kind::COLON, ErrorKind::UnexpectedToken)?;
-    let state = parse_value(text, behind, depth, under, rest)?;
-    let start = st.start();
-    state.put_node(rest, st.next, ast::kind::PROPERTY, 0, start, parent);
-    Ok(state)
+    let start = p.state.start();
+    p.enclose(
+        start,
+        Kind::Property,
+        parent,
+        |p: &mut Parser, node: u32| -> Parsed
+            ensures { Reads (λ x. pair_in x.text (value_in x.text depth x.base node)) p.entry.now p.exit.now result }
+        { parse_pair(p, depth, node) },
+    )
+}
+
+#[cycle(values)]
+fn parse_pair(p: &mut Parser, depth: u32, parent: u32) -> Parsed
+    ensures { Reads (λ x. pair_in x.text (value_in x.text depth x.base parent)) p.old p.new result }
+{
+    parse_value(p, depth, parent)?;
+    p.expect(Token::Colon, ErrorKind::UnexpectedToken)?;
+    parse_value(p, depth, parent)
 }

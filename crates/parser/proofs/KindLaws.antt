@@ -1,12 +1,14 @@
 -- Kinds of tokens against their numbers, by tests over all 52; `agree`, `alike` and `Tests` are for the tests of the code (SkipLaws of steps, KindTests of parse_values and parse_fields).
 --     either              of two tests one holds
 --     agree, alike        two functions of a kind that give the same at each of them
+--     any_of, none_of, none_left, unlike     a kind that is one of a list, or none, as a `match` says it
 --     Tests               a test of a number that says whether a kind is among these, and fails where no token is ahead
 use mathlib.Core.Path.{◌≡◌, refl, sym, ◌∙◌}
 use mathlib.Core.Bool.{Bool, true, false, not, cond, ◌||◌, ◌&&◌, or-false, false≢true}
 use mathlib.Core.List.{List, [], ◌∷◌}
+use mathlib.Core.Logic.{◌⊎◌, inl, inr}
 use Prim.Native.Nat.{ℕ, zero, suc}
-use borrow.Author.Tests.{eqb-true}
+use borrow.Author.Tests.{eqb-true, eq-eqb, ne_eqb}
 use lib.Dec.{eqb}
 use lib.ListN.{get_or}
 use Rattle.token.specs.Code.{code, is, among}
@@ -37,7 +39,7 @@ all_at f d e (k ∷ ks) zero h = (both_true (f k) (all f ks) h).0
 all_at f d e (k ∷ ks) (suc n) h = all_at f d e ks n (both_true (f k) (all f ks) h).1
 
 -- what is true of each kind is true of any
-holds : (f : Token → Bool) → all f kinds ≡ true → f T.Blank ≡ true → (k : Token) → f k ≡ true
+pub holds : (f : Token → Bool) → all f kinds ≡ true → f T.Blank ≡ true → (k : Token) → f k ≡ true
 holds f h e k = rw (kind_at k) at (all_at f T.Blank e kinds (code k) h)
 
 unfoldable pub same : Bool → Bool → Bool
@@ -59,11 +61,41 @@ pub alike : (c : Token → Bool) (f g : Token → ℕ) → all (λ k. cond (c k)
     → (k : Token) → c k ≡ true → f k ≡ g k
 alike c f g h e k t = eqb-true (f k) (g k) (rw t at (holds (λ k. cond (c k) (eqb (f k) (g k)) true) h e k))
 
+-- a kind that is one of a list, as a `match` says it
+abbrev pub AnyOf : Token → List Token → Type 0
+AnyOf k [] = ⊥
+AnyOf k (j ∷ []) = k ≡ j
+AnyOf k (j ∷ (i ∷ ks)) = (k ≡ j) ⊎ AnyOf k (i ∷ ks)
+
+or_also : (a : Bool) {b : Bool} → b ≡ true → (a || b) ≡ true
+or_also true h = refl
+or_also false h = h
+
+pub any_of : (k : Token) (ks : List Token) → AnyOf k ks → among k ks ≡ true
+unfolding among is
+any_of k [] h = absurd h
+any_of k (j ∷ []) h = rw (h, eq-eqb (code j) (code j) refl)
+any_of k (j ∷ (i ∷ ks)) (inl h) = rw (h, eq-eqb (code j) (code j) refl)
+any_of k (j ∷ (i ∷ ks)) (inr h) = or_also (eqb (code k) (code j)) (any_of k (i ∷ ks) h)
+
+-- and one that is none of it
+pub unlike : {k j : Token} → (k ≡ j → ⊥) → eqb (code k) (code j) ≡ false
+unfolding is
+unlike {k} {j} h = ne_eqb (code k) (code j) (λ x. h (same_kind k j (eq-eqb (code k) (code j) x)))
+
+pub none_left : (k : Token) → among k [] ≡ false
+unfolding among
+none_left k = refl
+
+pub none_of : {k j : Token} (ks : List Token) → (k ≡ j → ⊥) → among k ks ≡ false → among k (j ∷ ks) ≡ false
+unfolding among is
+none_of ks h e = rw (unlike h, e)
+
 pub record Tests (g : ℕ → Bool) (ks : List Token) : Type 0 where
   pub agrees : (k : Token) → g (code k) ≡ among k ks
   pub fails : g 255 ≡ false
 
-code_below : (k : Token) → eqb 255 (code k) ≡ false
+pub code_below : (k : Token) → eqb 255 (code k) ≡ false
 unfolding all same code
 code_below = agree (λ k. eqb 255 (code k)) (λ k. false) refl refl
 

@@ -102,8 +102,8 @@ fn print_text(rt: &HostRuntime, text: &[u8], indent: u32) -> io::Result<()> {
 
 fn print_input(rt: &HostRuntime, indent: u32) -> io::Result<()> {
     let mut text: [u8; TEXT] = [0; TEXT];
-    let input = rt.stdin();
-    match input::read_full(input, &mut text) {
+    let mut input = rt.stdin();
+    match input::read_full(&mut input, &mut text) {
         Ok(n) if n == TEXT || is_at_end(input) => print_text(rt, &text[..n], indent),
         _ => eprintln!(rt; "print: standard input can't be read to its end"),
     }

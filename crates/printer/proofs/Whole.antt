@@ -4,11 +4,13 @@
 --     all_long, all_wide           20 and 26
 --     all_refused, all_accepted    the reading refused the text, and the reading accepted it
 use mathlib.Core.Path.{◌≡◌, sym, ap, ◌∙◌}
-use mathlib.Core.List.{List, [], ◌∷◌, ◌++◌}
-use Prim.Native.Nat.{ℕ, ◌*◌, ◌-◌, ◌≤◌, ◌<◌}
+use mathlib.Core.List.{List, [], ◌∷◌}
+use Prim.Native.Nat.{ℕ, ◌*◌, ◌≤◌, ◌<◌}
 use borrow.Author.Tests.{lt-ltb, le-ltb}
-use lib.ListN.{length, take, replicate}
+use lib.ListN.{length, take}
+use Rattle.ast.specs.Clear.{Cleared}
 use Rattle.ast.specs.Records.{comment_width, node_width, room}
+use Rattle.ast.proofs.ClearLaws.{cleared_by}
 use Rattle.std.specs.Prelude.{Ok, Err}
 use Rattle.lexer.specs.Refusal.{number_of, said_by}
 use Rattle.lexer.specs.declared.error.Refusal.{Refusal}
@@ -24,17 +26,17 @@ use Rattle.cursor.specs.Onto.{Reached, reached}
 use Rattle.write_definitions.specs.Onto.{document_out}
 use Rattle.printer.specs.Onto.{opening, refusing, fits, ended, used, writing, by_answer, by_reading, all}
 
--- what cursor::clear leaves
-as_wiped : (i : ℕ) (o o' : List ℕ) → o' ≡ take i o ++ replicate (length o - i) 0 → o' ≡ wiped i o
+-- what clear leaves
+as_wiped : (i : ℕ) (o o' : List ℕ) → Cleared (λ x. x ≡ 0) i o o' → o' ≡ wiped i o
 unfolding wiped
-as_wiped i o o' e = e
+as_wiped = cleared_by 0
 
-pub refused_is : (e p n : ℕ) (t u o t' u' o' : List ℕ) → t' ≡ wiped 0 t → u' ≡ wiped 0 u → o' ≡ take 0 o ++ replicate (length o - 0) 0
+pub refused_is : (e p n : ℕ) (t u o t' u' o' : List ℕ) → t' ≡ wiped 0 t → u' ≡ wiped 0 u → Cleared (λ x. x ≡ 0) 0 o o'
     → record { says = refused e p n; nodes = t'; comments = u'; output = o' } ≡ refusing e p n t u o
 unfolding refusing
 refused_is e p n t u o t' u' o' h k l = rw (h, k, as_wiped 0 o o' l, wipe_all, wipe_all, wipe_all)
 
-pub fits_is : (n c len : ℕ) (t u o o' : List ℕ) → len ≤ length o → o' ≡ take len o ++ replicate (length o - len) 0
+pub fits_is : (n c len : ℕ) (t u o o' : List ℕ) → len ≤ length o → Cleared (λ x. x ≡ 0) len o o'
     → record { says = accepted (n ∷ c ∷ len ∷ []); nodes = t; comments = u; output = o' } ≡ fits n c len t u o
 unfolding fits
 fits_is n c len t u o o' h e = rw (le-ltb (length o) len h, as_wiped len o o' e)

@@ -15,9 +15,9 @@ use writer::{Print, Printed};
 fn refuse(refusal: Refusal, nodes: &mut [u32], comments: &mut [u32], out: &mut [u8]) -> Printed
     ensures { told result nodes.new comments.new out.new ≡ refusing (number_of refusal.kind) refusal.place refusal.length nodes.old comments.old out.old }
 {
-    table::clear(nodes, 0);
-    table::clear(comments, 0);
-    cursor::clear(out, 0);
+    ast::clear(nodes, 0);
+    ast::clear(comments, 0);
+    ast::clear(out, 0);
     Err(refusal)
 }
 
@@ -34,7 +34,7 @@ fn fit(
     if out.len() < bytes {
         return refuse(Refusal::at(ErrorKind::OutputFull, 0), nodes, comments, out);
     }
-    cursor::clear(out, bytes);
+    ast::clear(out, bytes);
     Ok(Print {
         nodes: counts.nodes,
         comments: counts.comments,

@@ -41,9 +41,9 @@ use Rattle.steps.specs.declared.state.State.{State}
 use Rattle.parser.specs.Steps.{St, pos, Raised, Res, no, test, fail}
 use Rattle.parser.specs.Definitions.{parse_definition, over, document_end, parse_document}
 use Rattle.parser.specs.Read.{parsed, error, answered, outcome_by, outcome, fitted, answer, left, rows_by, Reading, reading}
-use Rattle.steps.specs.Packed.{packed, unpacked, packed_loc, unpacked_loc}
-use Rattle.steps.specs.Into.{Out, done, stop, refused, closes_at, lexer_at, rest_at, wiped}
-use Rattle.reader.specs.Into.{in_rest, rest_in, over_in, between_in, document_in, beginning, refusing, ended, refusing_at, fits, judged, unscanned, settled, parsing}
+use Rattle.steps.specs.Packed.{packed, unpacked, unpacked_loc}
+use Rattle.steps.specs.Into.{code_of, Out, done, stop, refused, closes_at, lexer_at, rest_at, wiped}
+use Rattle.reader.specs.Into.{in_rest, rest_in, over_in, between_in, document_in, unread, beginning, refusing, ended, refusing_at, fits, judged, unscanned, settled, parsing}
 use Rattle.reader.proofs.Whole.{read_unknown}
 use Rattle.steps.proofs.PackLaws.{unpacked_packed, loc_back, small_span}
 use Rattle.steps.proofs.TableLaws.{lay, lay_append, length_lay, lay_rest, wiped_lay, node_some, comment_some}
@@ -136,11 +136,11 @@ module _ (text : List ℕ) (short : length text ≤ 65536) where
 
   -- ---- the document
 
-  refused_none : (e : ℕ) (st : State) → eqb st.kind 255 ≡ true → refused e st ≡ stop 3 st.last
+  refused_none : (e : ℕ) (st : State) → eqb (code_of st) 255 ≡ true → (t u : List ℕ) → refused e st t u ≡ stop 3 st.last t u
   unfolding refused
-  refused_none e st k = rw k
+  refused_none e st k t u = rw k
 
-  over_in_law : (st : State) (t u : List ℕ) (l : LOC) (z : Bool) → unpacked_loc st.last ≡ l → eqb l.end.index 1 ≡ z → over_in st t u ≡ cond z (refused 3 st) (done st t u)
+  over_in_law : (st : State) (t u : List ℕ) (l : LOC) (z : Bool) → unpacked_loc st.last ≡ l → eqb l.end.index 1 ≡ z → over_in st t u ≡ cond z (refused 3 st t u) (done st t u)
   unfolding over_in
   over_in_law st t u l z h e = let d : eqb (unpacked st.last.end).index 1 ≡ z = ap (λ (x : LOC). eqb x.end.index 1) h ∙ e in rw d
 
@@ -148,7 +148,7 @@ module _ (text : List ℕ) (short : length text ≤ 65536) where
       → (z : Bool) → eqb l.end.index 1 ≡ z → Turn text i b p fr f (closes_at 255) over_in (done st t u) (over (pos l c []))
   unfolding over closes_at test fail
   over_by {st = st} {t = t} {u = u} l c h true e =
-      rw (e, ← h.last) (refuses (none_ahead h.ahead) (over_in_law st t u l true h.last e ∙ refused_none 3 st (none_ahead h.ahead)))
+      rw (e, ← h.last) (refuses (none_ahead h.ahead) (over_in_law st t u l true h.last e ∙ refused_none 3 st (none_ahead h.ahead) t u))
   over_by {st = st} {t = t} {u = u} l c h false e = rw e (shuts (none_ahead h.ahead) (over_in_law st t u l false h.last e) h)
 
   over_turn : {i b p : ℕ} {fr : Frame} {f : Forest} {st : State} {t u : List ℕ} (s : St) → At text i b p fr f st t u s
@@ -179,21 +179,18 @@ module _ (text : List ℕ) (short : length text ≤ 65536) where
 
   -- the state in front of the text: its place is the first one
   beginning_ahead : AheadOf text (beginning text) (tokens text opening)
-  unfolding beginning between
+  unfolding beginning unread between
   beginning_ahead =
-      let l = packed_loc (between opening opening) in
       let z = small_span opening opening_placed in
       let e : lexer_at (unpacked (packed (span_of opening))) ≡ opening =
       ap lexer_at (unpacked_packed (span_of opening) z) ∙ lexer_span opening opening_placed.line_begun in
       rw e at
-      (advance_ahead text short (record { kind = 255; loc = l; last = l; next = 0; owned = 0; waiting = 0 }) (rw e opening_placed) (rw e opening_sound))
+      (advance_ahead text short unread (rw e opening_placed) (rw e opening_sound))
 
   pub beginning_at : (t u : List ℕ) → At text 8 0 no_parent (lent t u) bare (beginning text) t u (pos (between opening opening) [] (tokens text opening))
-  unfolding beginning between lay rows_of comment_rows_of sizes note_counts owned
+  unfolding beginning unread between lay rows_of comment_rows_of sizes note_counts owned
   beginning_at t u =
-      let l = packed_loc (between opening opening) in
-      let st : State = record { kind = 255; loc = l; last = l; next = 0; owned = 0; waiting = 0 } in
-      let m = moved text st in
+      let m = moved text unread in
       let z = small_span opening opening_placed in
       record {
         last = ap unpacked_loc m.last ∙ loc_back (between opening opening) z z;

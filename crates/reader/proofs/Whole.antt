@@ -1,10 +1,12 @@
 -- The document and the whole reading in code.
---     document_is           the document's loop (steps/proofs/LoopForms takes the turns)
+--     with_state, without_state, refused_with, refused_without   an answer that has the state, and one that does not
+--     handed                the tables, by the names that they were lent under
+--     all_read              the first token, and then all of the text
 --     rest_is               a definition that was lent the unused rest of the table
 --     parse_unknown         22
 --     parse_judged          what the grammar finds
 --     read_long, read_ill, read_unknown   20, 21 and 22
-use mathlib.Core.Path.{◌≡◌, refl, sym, ap, ◌∙◌}
+use mathlib.Core.Path.{◌≡◌, refl, sym, ap, ap₂, ◌∙◌}
 use mathlib.Core.List.{List, ◌++◌, append-nil}
 use Rattle.std.specs.Prelude.{Option, Some, None}
 use Prim.Native.Nat.{ℕ, ◌*◌, ◌-◌, ◌≤◌}
@@ -12,14 +14,22 @@ use native.Mathlib.Omega.{arith}
 use lib.ListN.{length, take, drop, length-drop, drop_of_length-le}
 use borrow.Rule.Slice.PartMut.{put_mid}
 use Rattle.lexer.specs.Outcome.{refused}
+use Rattle.lexer.specs.Refusal.{number_of}
 use Rattle.lexer.specs.Cuts.{cuts, unrecognized}
 use Rattle.lexer.specs.Check.{checked}
 use Rattle.scan.proofs.Part.{part}
 use Rattle.ast.specs.Records.{node_width, cleared}
 use Rattle.steps.specs.declared.state.State.{State}
-use Rattle.std.specs.Prelude.{Ok, Err}
+use Rattle.std.specs.Prelude.{⊤, Ok, Err}
+use Rattle.std.specs.Result.{IsErr, IsErrAnd}
+use Rattle.std.proofs.lemmas.Result.{err_from_is_err_and}
+use Rattle.steps.specs.declared.state.Parser.{Parser}
+use Rattle.steps.specs.Reads.{Parsed, tells, Reads, Does}
+use Rattle.steps.proofs.Chain.{begins, kept, last}
+use Rattle.std.specs.declared.result.Result.{Result}
+use Rattle.steps.specs.declared.state.Raised.{Raised}
 use Rattle.parser.specs.Read.{Reading, outcome_by, outcome, answer, left, reading}
-use Rattle.steps.specs.Into.{Parsed, Out, done, stop, shows, rest_at, loop_in, closes_at}
+use Rattle.steps.specs.Into.{Out, done, stop, shows, advance_in, advanced, after, rest_at, loop_in, closes_at}
 use Rattle.parse_definitions.specs.Into.{definition_in}
 use Rattle.reader.specs.Into.{in_rest, rest_in, between_in, over_in, document_in, beginning, refusing, refusing_at, judged, unscanned, settled, parsing}
 
@@ -33,18 +43,18 @@ lent_tail at t u =
     let h : length (drop at t) ≤ length t - at = omega (arith, length-drop at t) in
     rw (drop_of_length-le (drop at t) h, append-nil u) refl
 
-shown_rest : (a : Parsed) (i : ℕ) (t t₁ t₂ u' : List ℕ) → t₂ ≡ take i t ++ t₁ → shows a t₂ u' ≡ in_rest i t (shows a t₁ u')
+shown_rest : (a : Result State Raised) (i : ℕ) (t t₁ t₂ u' : List ℕ) → t₂ ≡ take i t ++ t₁ → shows a t₂ u' ≡ in_rest i t (shows a t₁ u')
 unfolding shows in_rest
 shown_rest (Ok st) i t t₁ t₂ u' e = ap (λ (x : List ℕ). done st x u') e
-shown_rest (Err r) i t t₁ t₂ u' e = refl
+shown_rest (Err r) i t t₁ t₂ u' e = ap (λ (x : List ℕ). stop (number_of r.kind) r.loc x u') e
 
-pub rest_is : (text : List ℕ) (st : State) (at : ℕ) (t t₁ u u' : List ℕ) (a : Parsed) → at ≡ rest_at (st.next * node_width) (length t) →
-    shows a t₁ u' ≡ definition_in text st (take (length t - at) (drop at t)) u → shows a (put_mid at (length t - at) t t₁) u' ≡ rest_in text st t u
+pub rest_is : (text : List ℕ) (st : State) (at : ℕ) (t t₁ u u' : List ℕ) (a : Result State Raised) → at ≡ rest_at (st.next * node_width) (length t) →
+    shows a t₁ u' ≡ definition_in text st.next st (take (length t - at) (drop at t)) u → shows a (put_mid at (length t - at) t t₁) u' ≡ rest_in text st t u
 unfolding rest_in
 rest_is text st at t t₁ u u' a h e =
     shown_rest a at t t₁ _ u' (lent_tail at t t₁)
-    ∙ ap (in_rest at t) (e ∙ ap (λ (x : List ℕ). definition_in text st x u) (part t at))
-    ∙ ap (λ (i : ℕ). in_rest i t (definition_in text st (drop i t) u)) h
+    ∙ ap (in_rest at t) (e ∙ ap (λ (x : List ℕ). definition_in text st.next st x u) (part t at))
+    ∙ ap (λ (i : ℕ). in_rest i t (definition_in text st.next st (drop i t) u)) h
 
 refusing_same : (e p n : ℕ) (t u t' u' : List ℕ) → length t' ≡ length t → length u' ≡ length u → refusing e p n t' u' ≡ refusing e p n t u
 unfolding refusing cleared
@@ -53,13 +63,10 @@ refusing_same e p n t u t' u' h g = rw (h, g)
 judged_same : (o : Out) (len : ℕ) (t u t₁ u₁ : List ℕ) → length t₁ ≡ length t → length u₁ ≡ length u → judged o len t₁ u₁ ≡ judged o len t u
 unfolding judged refusing_at
 judged_same (done st t' u') len t u t₁ u₁ h g = refl
-judged_same (stop e l) len t u t₁ u₁ h g = refusing_same _ _ _ t u t₁ u₁ h g
+judged_same (stop e l t' u') len t u t₁ u₁ h g = refusing_same _ _ _ t u t₁ u₁ h g
 
-module _ (text t u t₁ u₁ : List ℕ) (st : State) (a : Parsed) (from : ℕ) (h : st ≡ beginning text) (e : shows a t₁ u₁ ≡ document_in text st t u)
+module _ (text t u t₁ u₁ : List ℕ) (a : Result State Raised) (from : ℕ) (document : shows a t₁ u₁ ≡ document_in text (beginning text) t u)
     (f : from ≡ unscanned (shows a t₁ u₁)) (y : length t₁ ≡ length t) (z : length u₁ ≡ length u) where
-  document : shows a t₁ u₁ ≡ document_in text (beginning text) t u
-  document = e ∙ ap (λ (x : State). document_in text x t u) h
-
   parsed : (v : Option ℕ) → unrecognized (cuts (drop from text)) from ≡ v → settled v (shows a t₁ u₁) (length text) t u ≡ parsing text t u
   unfolding parsing
   parsed v g =
@@ -73,6 +80,42 @@ module _ (text t u t₁ u₁ : List ℕ) (st : State) (a : Parsed) (from : ℕ) 
   pub parse_judged : (r : Reading) → unrecognized (cuts (drop from text)) from ≡ None → r ≡ judged (shows a t₁ u₁) (length text) t₁ u₁ → r ≡ parsing text t u
   unfolding settled
   parse_judged r g q = q ∙ judged_same _ _ t u t₁ u₁ y z ∙ parsed None g
+
+-- ---- from an answer with the state to one without, and back
+
+module _ (X : Out) (st : State) (t u : List ℕ) where
+  pub with_state : (r : Parsed) (x : ⊤) → r ≡ Ok x → tells r st t u ≡ X → shows (Ok st) t u ≡ X
+  unfolding tells shows
+  with_state r x h e = sym (ap (λ (a : Parsed). tells a st t u) h) ∙ e
+
+  pub without_state : shows (Ok st) t u ≡ X → tells (Ok tt) st t u ≡ X
+  unfolding tells shows
+  without_state e = e
+
+  -- a `?` hands the error on
+  pub refused_with : (y : Raised) (r : Parsed) (a : Result State Raised) → r ≡ Err y → IsErr a × IsErrAnd a (λ z. z ≡ y) → tells r st t u ≡ X → shows a t u ≡ X
+  unfolding tells shows
+  refused_with y r a h g e =
+      let p = err_from_is_err_and a g.1 in
+      let q : a ≡ Err y = cc in
+      ap (λ (b : Result State Raised). shows b t u) q ∙ sym (ap (λ (b : Parsed). tells b st t u) h) ∙ e
+
+  pub refused_without : (y : Raised) (a : Parsed) → IsErr a × IsErrAnd a (λ z. z ≡ y) → shows (Err y) t u ≡ X → tells a st t u ≡ X
+  unfolding tells shows
+  refused_without y a g e =
+      let p = err_from_is_err_and a g.1 in
+      let q : a ≡ Err y = cc in
+      ap (λ (b : Parsed). tells b st t u) q ∙ e
+
+-- the tables, by the names that they were lent under
+pub handed : (X : Out) (a : Result State Raised) (t t' u u' : List ℕ) → shows a t u ≡ X → t' ≡ t → u' ≡ u → shows a t' u' ≡ X
+handed X a t t' u u' e h g = ap₂ (λ (x y : List ℕ). shows a x y) h g ∙ e
+
+-- the first token, and then all of the text
+pub all_read : {s t u : Parser} {r : Parsed} → Does (λ x. advance_in x.text) s t → Reads (λ x. document_in x.text) t u r
+    → Reads (λ x st. document_in x.text (advanced x.text st)) s u r
+unfolding advance_in after
+all_read a d = last d (kept a (document_in _) (begins refl))
 
 -- 20, 21, 22
 module _ (text t u : List ℕ) where

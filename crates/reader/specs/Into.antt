@@ -18,14 +18,14 @@ use Rattle.parse_definitions.specs.Into.{definition_in}
 
 unfoldable pub in_rest : ℕ → List ℕ → Out → Out
 in_rest i t (done st t' u') = done st (take i t ++ t') u'
-in_rest i t (stop n l) = stop n l
+in_rest i t (stop n l t' u') = stop n l (take i t ++ t') u'
 
 -- a definition, its records in the unused rest of the table
 unfoldable pub rest_in : List ℕ → M
-rest_in text st t u = let i = rest_at (st.next * node_width) (length t) in in_rest i t (definition_in text st (drop i t) u)
+rest_in text st t u = let i = rest_at (st.next * node_width) (length t) in in_rest i t (definition_in text st.next st (drop i t) u)
 
 unfoldable pub over_in : M
-over_in st t u = cond (eqb (unpacked st.last.end).index 1) (refused UnexpectedEOF st) (done st t u)
+over_in st t u = cond (eqb (unpacked st.last.end).index 1) (refused UnexpectedEOF st t u) (done st t u)
 
 unfoldable pub between_in : List ℕ → M
 between_in text = skip_in text true ⨟ (skip_comments_in text false ⨟ skip_in text true)
@@ -33,10 +33,14 @@ between_in text = skip_in text true ⨟ (skip_comments_in text false ⨟ skip_in
 unfoldable pub document_in : List ℕ → M
 document_in text = loop_in text (closes_at no_token) (between_in text) over_in (rest_in text)
 
-unfoldable pub beginning : List ℕ → State
-beginning text =
+-- before the first token
+unfoldable pub unread : State
+unread =
     let l = packed_loc (between opening opening) in
-    advanced text (record { kind = no_token; loc = l; last = l; next = 0; owned = 0; waiting = 0 })
+    record { token = None; loc = l; last = l; next = 0; owned = 0; waiting = 0 }
+
+unfoldable pub beginning : List ℕ → State
+beginning text = advanced text unread
 
 -- ---- the whole
 
@@ -58,12 +62,12 @@ fits st t u =
 
 unfoldable pub judged : Out → ℕ → List ℕ → List ℕ → Reading
 judged (done st t' u') len t u = fits st t' u'
-judged (stop e l) len t u = refusing_at e (unpacked_loc l) len t u
+judged (stop e l t' u') len t u = refusing_at e (unpacked_loc l) len t u
 
 -- from where on tokens are still to be looked for: behind what was read; from the start where the grammar refuses
 unfoldable pub unscanned : Out → ℕ
 unscanned (done st t u) = (unpacked st.loc.end).index
-unscanned (stop e l) = 0
+unscanned (stop e l t u) = 0
 
 -- 22 comes before what the grammar finds
 unfoldable pub settled : Option ℕ → Out → ℕ → List ℕ → List ℕ → Reading

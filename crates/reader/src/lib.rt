@@ -6,89 +6,113 @@ ghost use Rattle.lexer.specs.Limit.{limit};
 ghost use Rattle.lexer.specs.Refusal.{number_of};
 ghost use Rattle.parser.specs.Read.{reading, told};
 ghost use Rattle.steps.specs.Packed.{unpacked_loc};
-ghost use Rattle.steps.specs.Into.{Keeps, Lent, Reads, Still, shows};
-ghost use Rattle.reader.specs.Into.{rest_in, over_in, between_in, document_in, beginning, refusing, ended, refusing_at, fits, judged, unscanned, parsing};
+ghost use Rattle.steps.specs.Into.{shows};
+ghost use Rattle.steps.specs.Reads.{Does, Reads};
+ghost use Rattle.parse_definitions.specs.Into.{definition_in};
+ghost use Rattle.reader.specs.Into.{rest_in, over_in, between_in, document_in, unread, beginning, refusing, ended, refusing_at, fits, judged, unscanned, parsing};
 
 use lexer::error::{ErrorKind, Refusal};
 use lexer::location::Lexer;
 use parser::{Answer, Counts};
 use steps::packed::Range;
-use steps::state::{NONE, Parsed, Raised, State};
+use steps::state::{Parsed, Parser, Raised, State};
 use steps::{packed, table};
 
-// The definition, its records in the unused rest of the table.
-fn parse_in_rest(text: &[u8], st: State, nodes: &mut [u32], comments: &mut [u32]) -> Parsed
-    requires { Lent text.now }
-    ensures { Reads (rest_in text.now) st result nodes.old nodes.new comments.old comments.new }
+// The definition ahead; the table is lent from its own record on.
+fn parse_from(
+    text: &[u8],
+    state: State,
+    rest: &mut [u32],
+    comments: &mut [u32],
+) -> Result<State, Raised>
+    requires { length text.now ≤ limit }
+    ensures { shows result rest.new comments.new ≡ definition_in text.now state.next state rest.old comments.old }
 {
-    let at = table::rest_at(st.next as usize * ast::NODE_WIDTH, nodes.len());
-    parse_definitions::parse_definition(text, st, &mut nodes[at..], comments)
+    let mut p = Parser {
+        text,
+        nodes: rest,
+        base: state.next,
+        comments,
+        state,
+    };
+    parse_definitions::parse_definition(&mut p)?;
+    Ok(p.state)
+}
+
+// The definition, its records in the unused rest of the table.
+fn parse_in_rest(p: &mut Parser) -> Parsed
+    ensures { Reads (λ x. rest_in x.text) p.old p.new result }
+{
+    let at = table::rest_at(p.state.next as usize * ast::NODE_WIDTH, p.nodes.len());
+    p.state = parse_from(p.text, p.state, &mut p.nodes[at..], p.comments)?;
+    Ok(())
 }
 
 // The end of the text: refused where the last token ends at offset 1.
-fn over(st: State) -> Parsed
-    ensures { Still (over_in) st result }
+fn over(p: &mut Parser) -> Parsed
+    ensures { Reads (λ x. over_in) p.old p.new result }
 {
-    let last = st.last;
-    if packed::index_of(last.end) == 1 {
-        return st.refuse(ErrorKind::UnexpectedEOF);
+    if packed::index_of(p.state.last.end) == 1 {
+        return Err(p.error(ErrorKind::UnexpectedEOF));
     }
-    Ok(st)
+    Ok(())
 }
 
 // Between definitions: separators, comments, separators again.
-fn between(text: &[u8], st: State, comments: &mut [u32]) -> State
-    requires { Lent text.now }
-    ensures { Keeps (between_in text.now) st result comments.old comments.new }
+fn between(p: &mut Parser)
+    ensures { Does (λ x. between_in x.text) p.old p.new }
 {
-    let over = st.skip(text, true);
-    let found = over.skip_comments(text, false, comments);
-    found.skip(text, true)
+    p.skip(true);
+    p.skip_comments(false);
+    p.skip(true);
 }
 
 // parse: all definitions.
 // Document ::= (Gap Definition)* Gap; Gap ::= Separator* Comment* Separator*
-fn parse_document(text: &[u8], st: State, nodes: &mut [u32], comments: &mut [u32]) -> Parsed
-    requires { Lent text.now }
-    ensures { Reads (document_in text.now) st result nodes.old nodes.new comments.old comments.new }
+fn parse_document(p: &mut Parser) -> Parsed
+    ensures { Reads (λ x. document_in x.text) p.old p.new result }
 {
-    let mut state = st;
-    loop {
-        let found = between(text, state, comments);
-        if found.kind == NONE {
-            return over(found);
-        }
-        state = parse_in_rest(text, found, nodes, comments)?;
-    }
+    p.parse_until(None, between, over, parse_in_rest)
 }
 
-// The state at the start of a text.
-fn begin(text: &[u8]) -> State
-    requires { Lent text.now }
-    ensures { result ≡ beginning text.now }
+// Before the first token.
+fn unread() -> State
+    ensures { result ≡ unread }
 {
-    let lexer = Lexer::new();
-    let start = packed::pack(lexer.span());
-    let end = start;
-    let loc = Range { start, end };
-    let last = loc;
-    let st = State {
-        kind: NONE,
+    let start = packed::pack(Lexer::new().span());
+    let loc = Range { start, end: start };
+    State {
+        token: None,
         loc,
-        last,
+        last: loc,
         next: 0,
         owned: 0,
         waiting: 0,
+    }
+}
+
+// All of a text.
+fn parse_text(text: &[u8], nodes: &mut [u32], comments: &mut [u32]) -> Result<State, Raised>
+    requires { length text.now ≤ limit }
+    ensures { shows result nodes.new comments.new ≡ document_in text.now (beginning text.now) nodes.old comments.old }
+{
+    let mut p = Parser {
+        text,
+        nodes,
+        base: 0,
+        comments,
+        state: unread(),
     };
-    let found = steps::look(text, start);
-    st.ahead(found)
+    p.advance();
+    parse_document(&mut p)?;
+    Ok(p.state)
 }
 
 fn refuse(refusal: Refusal, nodes: &mut [u32], comments: &mut [u32]) -> Answer
     ensures { told result nodes.new comments.new ≡ refusing (number_of refusal.kind) refusal.place refusal.length nodes.old comments.old }
 {
-    table::clear(nodes, 0);
-    table::clear(comments, 0);
+    ast::clear(nodes, 0);
+    ast::clear(comments, 0);
     Err(refusal)
 }
 
@@ -138,8 +162,8 @@ fn fit(state: State, nodes: &mut [u32], comments: &mut [u32]) -> Answer
     if comments.len() / ast::COMMENT_WIDTH < owned as usize {
         return refuse(Refusal::at(ErrorKind::CommentsFull, 0), nodes, comments);
     }
-    table::clear(nodes, next as usize * ast::NODE_WIDTH);
-    table::clear(comments, owned as usize * ast::COMMENT_WIDTH);
+    ast::clear(nodes, next as usize * ast::NODE_WIDTH);
+    ast::clear(comments, owned as usize * ast::COMMENT_WIDTH);
     Ok(Counts {
         nodes: next,
         comments: owned,
@@ -147,7 +171,7 @@ fn fit(state: State, nodes: &mut [u32], comments: &mut [u32]) -> Answer
 }
 
 // From where on tokens are still to be looked for: behind what was read; from the start where the grammar refuses.
-fn unscanned(parsed: Parsed) -> usize
+fn unscanned(parsed: Result<State, Raised>) -> usize
     ensures { (result ≤ 4294967295) × ((t u : List ℕ) → result ≡ unscanned (shows parsed t u)) }
 {
     match parsed {
@@ -160,7 +184,12 @@ fn unscanned(parsed: Parsed) -> usize
 }
 
 // What the grammar finds.
-fn judge(parsed: Parsed, len: usize, nodes: &mut [u32], comments: &mut [u32]) -> Answer
+fn judge(
+    parsed: Result<State, Raised>,
+    len: usize,
+    nodes: &mut [u32],
+    comments: &mut [u32],
+) -> Answer
     ensures { told result nodes.new comments.new ≡ judged (shows parsed nodes.old comments.old) len nodes.old comments.old }
 {
     match parsed {
@@ -174,8 +203,7 @@ fn parse(text: &[u8], nodes: &mut [u32], comments: &mut [u32]) -> Answer
     requires { length text.now ≤ limit }
     ensures { told result nodes.new comments.new ≡ parsing text.now nodes.old comments.old }
 {
-    let st = begin(text);
-    let parsed = parse_document(text, st, nodes, comments);
+    let parsed = parse_text(text, nodes, comments);
     let from = unscanned(parsed);
     if let Some(at) = lexer::unrecognized(text, from) {
         return refuse(Refusal::at(ErrorKind::NoToken, at as u32), nodes, comments);

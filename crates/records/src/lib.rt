@@ -83,6 +83,14 @@ impl<'a> Nodes<'a> {
         Kind::try_from(number).ok()
     }
 
+    // The number of its kind, whatever it is; 0 behind the last one.
+    #[tactic(auto, using(crate::proofs::RecordLaws::held_or), unfolding(ast::specs::Records::node_width, crate::specs::Table::kind_at))]
+    pub fn kind_number(self, n: u32) -> u32
+        ensures { result ≡ kind_at self.entry.0.now (room node_width self.entry.0.now) n }
+    {
+        held(self.0, NODE_WIDTH, n, 0).unwrap_or(0)
+    }
+
     // The parent of a record; none behind the last one.
     #[tactic(auto, using(crate::proofs::RecordLaws::held_or), unfolding(ast::specs::Records::node_width, ast::specs::Records::no_parent, crate::specs::Table::parent_at))]
     pub fn parent(self, n: u32) -> u32

@@ -1,5 +1,6 @@
 -- What the replay programs look at: the numbers of a list, and what has to be 0.
-use Rattle.std.specs.Prelude.{◌≡◌, List, ℕ, ◌+◌, ◌*◌, ◌≤◌, get_or}
+-- And what a call reads of the bytes that the list has left, where those are known; of standard input they are not.
+use Rattle.std.specs.Prelude.{◌≡◌, List, [], ℕ, ◌+◌, ◌*◌, ◌<◌, ◌≤◌, length, get_or, take, drop, ⊤, Option, None, Some}
 
 -- a little-endian number of 4 bytes
 unfoldable pub number_at : List ℕ → ℕ → ℕ
@@ -8,3 +9,24 @@ number_at l i = get_or l i 0 + get_or l (i + 1) 0 * 256 + get_or l (i + 2) 0 * 6
 -- 0 from an index on
 abbrev pub ZeroFrom : List ℕ → ℕ → Type 0
 ZeroFrom t i = (k : ℕ) → i ≤ k → get_or t k 0 ≡ 0
+
+-- the next number, unless the list ends before it does
+abbrev pub ReadsNumber : ℕ → Option (List ℕ) → Option (List ℕ) → Type 0
+ReadsNumber n None new = ⊤
+ReadsNumber n (Some xs) None = ⊥
+ReadsNumber n (Some xs) (Some ys) = (4 ≤ length xs → n ≡ number_at xs 0) × (ys ≡ drop 4 xs)
+
+-- the next part, a number and so many bytes; if there is no room for them the number alone, and no bytes
+abbrev pub ReadsPart : ℕ → List ℕ → Option (List ℕ) → Option (List ℕ) → Type 0
+ReadsPart room part None new = ⊤
+ReadsPart room part (Some xs) None = ⊥
+ReadsPart room part (Some xs) (Some ys) =
+    4 ≤ length xs →
+    (number_at xs 0 ≤ room → (part ≡ take (number_at xs 0) (drop 4 xs)) × (ys ≡ drop (number_at xs 0) (drop 4 xs)))
+    × (room < number_at xs 0 → (part ≡ []) × (ys ≡ drop 4 xs))
+
+-- the next part is passed, a number and so many bytes
+abbrev pub PassesPart : Option (List ℕ) → Option (List ℕ) → Type 0
+PassesPart None new = ⊤
+PassesPart (Some xs) None = ⊥
+PassesPart (Some xs) (Some ys) = 4 ≤ length xs → ys ≡ drop (number_at xs 0) (drop 4 xs)

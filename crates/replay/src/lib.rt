@@ -7,14 +7,17 @@
 //     three prints, each its length and its bytes
 #![tactic(auto)]
 
-ghost use Rattle.std.specs.Prelude.{◌≡◌, true, cond, not, ◌+◌, ◌≤◌, length, replicate};
+ghost use Rattle.std.specs.Prelude.{◌≡◌, Bool, true, cond, not, ◌==◌, ℕ, ◌+◌, ◌*◌, ◌≤◌, List, length, take, replicate, IfOk, OnOk};
 ghost use Rattle.std.specs.Io.{ReadsAtMost};
-ghost use Rattle.replay.specs.List.{number_at, ZeroFrom};
+ghost use Rattle.std.specs.List.{FoldsTo};
+ghost use Rattle.input.specs.Known.{Passes};
+ghost use Rattle.replay.specs.List.{number_at, ZeroFrom, ReadsNumber, ReadsPart, PassesPart};
+ghost use Rattle.replay.specs.Findings.{WithText};
 ghost use Rattle.ast.specs.Largest.{bump};
 ghost use Rattle.lexer.specs.Location.{has_pair};
 ghost use Rattle.replay.specs.Pair.{pair_at};
 
-use std::io::{Stdin, Stdout};
+use std::io::{Read, Stdout};
 use std::{fmt, io};
 
 // Longer than each text and each print of the list.
@@ -27,18 +30,24 @@ pub const COMMENTS: usize = 1804;
 
 // What a program finds in the texts of the list, and writes behind their count.
 pub trait Findings: Copy + Default + fmt::Display {
+    // Whether a text more differs, by what is found with it and what was found before.
+    ghost differs: { Self → Self → Bool };
+
     // Whether a text more differs than before.
-    fn has_more(&self, before: &Self) -> bool;
+    fn has_more(&self, before: &Self) -> bool
+        ensures { result ≡ differs self.now before.now };
 }
 
 // Goes through all texts of the list; writes the index of each that differs, then what was found.
 // `compare` is given the text, its index and what was found before; the input goes on with the text's answers.
-pub fn replay<T: Findings, F: Fn(Stdin, &[u8], u32, T) -> io::Result<T>>(
-    input: Stdin,
+// Answers how many texts there are, and what was found in them.
+pub fn replay<R: Read, T: Findings, F: Fn(&mut R, &[u8], u32, T) -> io::Result<T>>(
+    input: &mut R,
     out: Stdout,
     compare: F,
-) -> io::Result<()>
+) -> io::Result<(u32, T)>
     requires { F.IsAlwaysCallable compare }
+    ensures { IfOk result (λ found. (first : R) × (start : T) × (texts : List (List ℕ)) × ReadsNumber found.0 (R.remaining input.old) (R.remaining first) × T.is_default start × FoldsTo (WithText R.remaining (F.post compare)) (0, start, first) texts (found.0, found.1, input.new)) }
 {
     let texts = read_number(input)?;
     let mut space: [u8; SPACE] = [0; SPACE];
@@ -51,7 +60,8 @@ pub fn replay<T: Findings, F: Fn(Stdin, &[u8], u32, T) -> io::Result<T>>(
         }
         found = now;
     }
-    println!(out; "{texts} texts, {found}")
+    println!(out; "{texts} texts, {found}")?;
+    Ok((texts, found))
 }
 
 // Both tables of a text, lent full of sevens, so that what a call leaves as it was is seen.
@@ -112,12 +122,19 @@ impl Tally {
 }
 
 impl Findings for Tally {
+    ghost differs = { λ found before. not (found.differing == before.differing) };
+
     fn has_more(&self, before: &Tally) -> bool {
         self.differing != before.differing
     }
 }
 
 impl fmt::Display for Tally {
+    ghost use Rattle.std.specs.Prelude.{Some, codes, ◌++◌};
+    ghost use Rattle.std.specs.Fmt.{decimal};
+
+    ghost output = { λ tally. Some (decimal tally.differing ++ (codes " differ; " ++ (decimal tally.paired ++ codes " with CR LF"))) };
+
     fn fmt<W: fmt::Write>(&self, f: &mut fmt::Formatter<W>) -> fmt::Result {
         let Tally { differing, paired } = *self;
         write!(f, "{differing} differ; {paired} with CR LF")
@@ -134,15 +151,18 @@ pub fn number(list: &[u8], at: usize) -> u32
 }
 
 // The next number of the list.
-pub fn read_number(input: Stdin) -> io::Result<u32> {
+pub fn read_number<R: Read>(input: &mut R) -> io::Result<u32>
+    ensures { IfOk result (λ n. ReadsNumber n (R.remaining input.old) (R.remaining input.new)) }
+{
     let mut bytes = [0u8; 4];
     input::read_full(input, &mut bytes)?;
-    Ok(u32::from_le_bytes(bytes))
+    Ok(number(&bytes, 0))
 }
 
 // Reads the next part of the list, its length and its bytes, to the start of a space; answers the length, 0 if the space is too short.
-pub fn read_part(input: Stdin, space: &mut [u8]) -> io::Result<usize>
-    ensures { ReadsAtMost result space.new }
+pub fn read_part<R: Read>(input: &mut R, space: &mut [u8]) -> io::Result<usize>
+    ensures bound { ReadsAtMost result space.new }
+    ensures part { IfOk result (λ n. ReadsPart (length space.new) (take n space.new) (R.remaining input.old) (R.remaining input.new)) }
 {
     let length = read_number(input)? as usize;
     if space.len() < length {
@@ -152,7 +172,9 @@ pub fn read_part(input: Stdin, space: &mut [u8]) -> io::Result<usize>
 }
 
 // Passes over so many bytes of the list.
-fn pass_bytes(input: Stdin, count: usize) -> io::Result<()> {
+fn pass_bytes<R: Read>(input: &mut R, count: usize) -> io::Result<()>
+    ensures { OnOk result (Passes count (R.remaining input.old) (R.remaining input.new)) }
+{
     let mut bytes = [0u8; 4096];
     for _ in 0..count / bytes.len() {
         input::read_full(input, &mut bytes)?;
@@ -163,13 +185,17 @@ fn pass_bytes(input: Stdin, count: usize) -> io::Result<()> {
 }
 
 // Passes over the next part of the list.
-pub fn pass_part(input: Stdin) -> io::Result<()> {
+pub fn pass_part<R: Read>(input: &mut R) -> io::Result<()>
+    ensures { OnOk result (PassesPart (R.remaining input.old) (R.remaining input.new)) }
+{
     let length = read_number(input)?;
     pass_bytes(input, length as usize)
 }
 
 // Passes over the records of so many nodes and of so many comments, numbers of 4 bytes.
-pub fn pass_records(input: Stdin, nodes: u32, comments: u32) -> io::Result<()> {
+pub fn pass_records<R: Read>(input: &mut R, nodes: u32, comments: u32) -> io::Result<()>
+    ensures { OnOk result (Passes (nodes * 40 + comments * 36) (R.remaining input.old) (R.remaining input.new)) }
+{
     pass_bytes(input, nodes as usize * ast::NODE_WIDTH * 4)?;
     pass_bytes(input, comments as usize * ast::COMMENT_WIDTH * 4)
 }

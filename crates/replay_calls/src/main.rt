@@ -280,12 +280,22 @@ impl Tally {
 }
 
 impl Findings for Tally {
+    ghost use Rattle.std.specs.Prelude.{not, ◌&&◌, ◌==◌};
+
+    ghost differs = { λ found before. not ((found.differing == before.differing) && (found.altered == before.altered)) };
+
     fn has_more(&self, before: &Tally) -> bool {
         (self.differing, self.altered) != (before.differing, before.altered)
     }
 }
 
 impl fmt::Display for Tally {
+    ghost use Rattle.std.specs.Prelude.{Some, codes, ◌++◌};
+    ghost use Rattle.std.specs.Fmt.{decimal};
+
+    ghost output = { λ t. Some (decimal t.calls ++ (codes " calls; printings: " ++ (decimal t.accepted ++ (codes " accepted, " ++ (decimal t.refused
+        ++ (codes " refused; " ++ (decimal t.altered ++ (codes " files altered after a print, " ++ (decimal t.differing ++ codes " differences"))))))))) };
+
     fn fmt<W: fmt::Write>(&self, f: &mut fmt::Formatter<W>) -> fmt::Result {
         let Tally {
             calls,
@@ -296,11 +306,7 @@ impl fmt::Display for Tally {
         } = *self;
         write!(
             f,
-            "{calls} calls; printings: {accepted} accepted, {refused} refused; "
-        )?;
-        write!(
-            f,
-            "{altered} files altered after a print, {differing} differences"
+            "{calls} calls; printings: {accepted} accepted, {refused} refused; {altered} files altered after a print, {differing} differences"
         )
     }
 }
@@ -366,7 +372,7 @@ fn compare_lists(text: Text, mut tally: Tally) -> Tally {
 }
 
 // Passes over what the list has for a text.
-fn pass_answer(input: Stdin) -> io::Result<()> {
+fn pass_answer(input: &mut Stdin) -> io::Result<()> {
     let number = replay::read_number(input)?;
     replay::read_number(input)?;
     replay::read_number(input)?;
@@ -383,11 +389,12 @@ fn pass_answer(input: Stdin) -> io::Result<()> {
 }
 
 // Makes the calls of a text.
-fn compare(input: Stdin, bytes: &[u8], index: u32, tally: Tally) -> io::Result<Tally> {
+fn compare(input: &mut Stdin, bytes: &[u8], index: u32, tally: Tally) -> io::Result<Tally> {
     pass_answer(input)?;
     Ok(compare_lists(Text { bytes, index }, tally))
 }
 
 fn main(rt: HostRuntime) -> io::Result<()> {
-    replay::replay(rt.stdin(), rt.stdout(), compare)
+    replay::replay(&mut rt.stdin(), rt.stdout(), compare)?;
+    Ok(())
 }

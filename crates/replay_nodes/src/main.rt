@@ -42,7 +42,7 @@ impl Records<'_> {
     }
 
     // Whether the next records of the list, so many, stand in the table, and 0 past them.
-    fn are_listed(self, input: Stdin, count: u32, paired: bool) -> io::Result<bool> {
+    fn are_listed(self, input: &mut Stdin, count: u32, paired: bool) -> io::Result<bool> {
         let end = count as usize * self.width;
         let mut same = true;
         for i in 0..end {
@@ -82,7 +82,7 @@ impl Reading {
     }
 
     // Whether it is the list's refusal, and the tables are all 0.
-    fn is_refusal(&self, input: Stdin, number: u32) -> io::Result<bool> {
+    fn is_refusal(&self, input: &mut Stdin, number: u32) -> io::Result<bool> {
         let place = replay::read_number(input)?;
         let length = replay::read_number(input)?;
         let same = matches!(
@@ -93,7 +93,7 @@ impl Reading {
     }
 
     // Whether it has the list's counts and records; in a text with CR LF the lines may be others.
-    fn is_accepted(&self, input: Stdin, paired: bool) -> io::Result<bool> {
+    fn is_accepted(&self, input: &mut Stdin, paired: bool) -> io::Result<bool> {
         replay::read_number(input)?;
         replay::read_number(input)?;
         let nodes = replay::read_number(input)?;
@@ -111,7 +111,7 @@ impl Reading {
     }
 
     // Whether the answer and the tables are as the list has them.
-    fn is_listed(&self, input: Stdin, paired: bool) -> io::Result<bool> {
+    fn is_listed(&self, input: &mut Stdin, paired: bool) -> io::Result<bool> {
         match replay::read_number(input)? {
             0 => self.is_accepted(input, paired),
             number => self.is_refusal(input, number),
@@ -146,19 +146,20 @@ fn same_spaced(text: &[u8], tables: &Tables) -> bool {
 }
 
 // Reads a text, and tells whether all is as the list has it, and the lines as they must be.
-fn same_text(input: Stdin, text: &[u8], paired: bool) -> io::Result<bool> {
+fn same_text(input: &mut Stdin, text: &[u8], paired: bool) -> io::Result<bool> {
     let reading = Reading::of(text);
     let listed = reading.is_listed(input, paired)?;
     Ok(listed && (!paired || same_spaced(text, &reading.tables)))
 }
 
 // Compares a text.
-fn compare(input: Stdin, text: &[u8], _index: u32, tally: Tally) -> io::Result<Tally> {
+fn compare(input: &mut Stdin, text: &[u8], _index: u32, tally: Tally) -> io::Result<Tally> {
     let paired = replay::has_pair(text);
     let same = same_text(input, text, paired)?;
     Ok(tally.with(same, paired))
 }
 
 fn main(rt: HostRuntime) -> io::Result<()> {
-    replay::replay(rt.stdin(), rt.stdout(), compare)
+    replay::replay(&mut rt.stdin(), rt.stdout(), compare)?;
+    Ok(())
 }

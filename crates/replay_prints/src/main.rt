@@ -56,7 +56,7 @@ fn is_refused(text: &[u8], out: &mut [u8], number: u32, place: u32, length: u32)
 }
 
 // Whether the text is refused as the list has it.
-fn is_refused_alike(input: Stdin, text: &[u8], number: u32) -> io::Result<bool> {
+fn is_refused_alike(input: &mut Stdin, text: &[u8], number: u32) -> io::Result<bool> {
     let place = replay::read_number(input)?;
     let length = replay::read_number(input)?;
     let mut out: [u8; 99] = [7; 99];
@@ -110,12 +110,21 @@ impl Tally {
 }
 
 impl Findings for Tally {
+    ghost use Rattle.std.specs.Prelude.{not, ◌&&◌, ◌==◌};
+
+    ghost differs = { λ found before. not ((found.differing == before.differing) && (found.altered == before.altered)) };
+
     fn has_more(&self, before: &Tally) -> bool {
         (self.differing, self.altered) != (before.differing, before.altered)
     }
 }
 
 impl fmt::Display for Tally {
+    ghost use Rattle.std.specs.Prelude.{Some, codes, ◌++◌};
+    ghost use Rattle.std.specs.Fmt.{decimal};
+
+    ghost output = { λ t. Some (decimal t.prints ++ (codes " prints, " ++ (decimal t.differing ++ (codes " differ; " ++ (decimal t.again ++ (codes " printed again, " ++ (decimal t.altered ++ codes " altered"))))))) };
+
     fn fmt<W: fmt::Write>(&self, f: &mut fmt::Formatter<W>) -> fmt::Result {
         let Tally {
             prints,
@@ -143,7 +152,7 @@ fn compare_print(text: &[u8], indent: u32, print: &[u8], tally: Tally) -> Tally 
 }
 
 // Compares the three prints of an accepted text with those of the list.
-fn compare_prints(input: Stdin, text: &[u8], mut tally: Tally) -> io::Result<Tally> {
+fn compare_prints(input: &mut Stdin, text: &[u8], mut tally: Tally) -> io::Result<Tally> {
     replay::read_number(input)?;
     replay::read_number(input)?;
     let nodes = replay::read_number(input)?;
@@ -158,7 +167,7 @@ fn compare_prints(input: Stdin, text: &[u8], mut tally: Tally) -> io::Result<Tal
 }
 
 // Compares what is answered for a text.
-fn compare(input: Stdin, text: &[u8], _index: u32, tally: Tally) -> io::Result<Tally> {
+fn compare(input: &mut Stdin, text: &[u8], _index: u32, tally: Tally) -> io::Result<Tally> {
     match replay::read_number(input)? {
         0 => compare_prints(input, text, tally),
         number => Ok(tally.compared(is_refused_alike(input, text, number)?)),
@@ -166,5 +175,6 @@ fn compare(input: Stdin, text: &[u8], _index: u32, tally: Tally) -> io::Result<T
 }
 
 fn main(rt: HostRuntime) -> io::Result<()> {
-    replay::replay(rt.stdin(), rt.stdout(), compare)
+    replay::replay(&mut rt.stdin(), rt.stdout(), compare)?;
+    Ok(())
 }

@@ -46,6 +46,11 @@ enum ListError {
 }
 
 impl fmt::Display for ListError {
+    ghost use Rattle.std.specs.Prelude.{Some};
+    ghost use Rattle.replay_tokens.specs.Message.{message};
+
+    ghost output = { λ error. Some (message error) };
+
     fn fmt<W: fmt::Write>(&self, f: &mut fmt::Formatter<W>) -> fmt::Result {
         f.write_str(match self {
             ListError::Short => "the list ends early",
@@ -217,6 +222,6 @@ fn space() -> [u8; 524288]
 
 fn main(rt: HostRuntime) -> io::Result<()> {
     let mut space = space();
-    let n = input::read_full(rt.stdin(), &mut space)?;
+    let n = input::read_full(&mut rt.stdin(), &mut space)?;
     compare_list(rt.stdout(), List { rest: &space[..n] })
 }

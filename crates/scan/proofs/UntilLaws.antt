@@ -1,15 +1,16 @@
 -- The bytes before one byte, one at a time; and where a class holds that byte alone, they are the bytes before the class.
 --     line_end      before the end of the line
 --     star_next     before the next star
-use mathlib.Core.Path.{◌≡◌, refl}
-use mathlib.Core.Bool.{Bool, ◌&&◌, beq}
+use mathlib.Core.Path.{◌≡◌, refl, ap, ◌∙◌}
+use mathlib.Core.Bool.{Bool, cond, ◌&&◌, beq}
 use mathlib.Core.List.{List, [], ◌∷◌}
-use Prim.Native.Nat.{ℕ, zero, suc, ◌+◌, ◌<◌}
+use Prim.Native.Nat.{ℕ, zero, suc, ◌+◌, ◌<◌, ◌≤◌}
+use native.Mathlib.Numerals.{add-one}
 use native.Mathlib.Omega.{arith}
 use borrow.Author.Tests.{eq-eqb, ne_eqb}
 use lib.Dec.{T, eqb, ltb, leb}
-use lib.ListN.{get_or, drop}
-use lib.Seq.{get_or-drop}
+use lib.ListN.{length, get_or, drop, drop_of_length-le}
+use lib.Seq.{drop-cons, get_or-drop}
 use Rattle.token.specs.Tables.{classes}
 use Rattle.token.specs.Run.{class_of, stops, before}
 use Rattle.token.specs.Automaton.{State, Reached}
@@ -19,24 +20,20 @@ use Rattle.token.proofs.Classes.{classes_length, beq_eq}
 use Rattle.token.proofs.Reach.{ended}
 use Rattle.scan.specs.Until.{until}
 
-module _ (b : ℕ) where
-  abbrev pub Here : ℕ → Type 0
-  Here x = x ≡ b
-
-  abbrev pub Apart : ℕ → Type 0
-  Apart x = x ≡ b → ⊥
-
-  pub until_nil : until b [] ≡ 0
+module _ (b : ℕ) (t : List ℕ) (i : ℕ) where
+  step : i < length t → until b (drop i t) ≡ cond (eqb (get_or t i 0) b) 0 (suc (until b (drop (i + 1) t)))
   unfolding until
-  until_nil = refl
+  step h = ap (until b) (drop-cons t i 0 h) ∙ rw add-one
 
-  pub until_hit : (x : ℕ) (xs : List ℕ) → Here x → until b (x ∷ xs) ≡ 0
-  unfolding until
-  until_hit x xs h = rw (eq-eqb _ _ h)
+  pub until_here : i < length t → get_or t i 0 ≡ b → i + until b (drop i t) ≡ i
+  until_here h a = let e : until b (drop i t) ≡ 0 = step h ∙ rw (eq-eqb _ _ a) in omega arith
 
-  pub until_miss : (x : ℕ) (xs : List ℕ) → Apart x → until b (x ∷ xs) ≡ until b xs + 1
+  pub until_on : i < length t → (get_or t i 0 ≡ b → ⊥) → i + until b (drop i t) ≡ i + 1 + until b (drop (i + 1) t)
+  until_on h a = let e : until b (drop i t) ≡ suc (until b (drop (i + 1) t)) = step h ∙ rw (ne_eqb _ _ a) in omega arith
+
+  pub until_all : length t ≤ i → i + until b (drop i t) ≡ i
   unfolding until
-  until_miss x xs h = rw (ne_eqb _ _ h) (omega arith)
+  until_all h = rw (drop_of_length-le t h) (omega arith)
 
 -- ---- a class of one byte
 

@@ -94,12 +94,13 @@ fn run(text: &[u8], at: usize, from: u8, to: u8) -> usize
     requires { at ≤ length text.now }
     ensures { result ≡ at + before from to (drop at text.now) }
 {
-    let rest = &text[at..];
-    let found = rest.iter().position(|&byte| {
-        let k = class_of(byte);
-        from <= k && k < to
-    });
-    at + found.unwrap_or(rest.len())
+    for i in at..text.len() {
+        let k = class_at(text, i);
+        if from <= k && k < to {
+            return i;
+        }
+    }
+    text.len()
 }
 
 // The first place from `at` on where the byte stands; the end if there is none.
@@ -107,14 +108,18 @@ fn find(text: &[u8], at: usize, byte: u8) -> usize
     requires { at ≤ length text.now }
     ensures { result ≡ at + until byte (drop at text.now) }
 {
-    let rest = &text[at..];
-    at + rest
-        .iter()
-        .position(|&other| other == byte)
-        .unwrap_or(rest.len())
+    for i in at..text.len() {
+        if text[i] == byte {
+            return i;
+        }
+    }
+    text.len()
 }
 
+// What answers a Scan is inlined: called, it would answer through memory, and each caller would copy the answer.
+
 // The number whose exponent's digits are to start at `at`; without one it ends at `end` as `kind`.
+#[inline(always)]
 fn exponent_digits(text: &[u8], at: usize, end: usize, kind: Token) -> Scan
     requires { Reached text.now State.exponent_sign at (Some (kind, end)) }
     ensures { result ≡ longest text.now }
@@ -129,6 +134,7 @@ fn exponent_digits(text: &[u8], at: usize, end: usize, kind: Token) -> Scan
 }
 
 // The number whose `e` stands at `end`, where it ends as `kind` if no exponent follows.
+#[inline(always)]
 fn exponent_of(text: &[u8], end: usize, kind: Token) -> Scan
     requires { Reached text.now State.exponent_mark (end + 1) (Some (kind, end)) }
     ensures { result ≡ longest text.now }
@@ -144,6 +150,7 @@ fn exponent_of(text: &[u8], end: usize, kind: Token) -> Scan
 }
 
 // The number whose digits behind the point go on at `at`.
+#[inline(always)]
 fn fraction_of(text: &[u8], at: usize) -> Scan
     requires { Reached text.now State.fraction at (Some (T.DoubleLiteral, at)) }
     ensures { result ≡ longest text.now }
@@ -159,6 +166,7 @@ fn fraction_of(text: &[u8], at: usize) -> Scan
 }
 
 // The number whose digits go on at `at`.
+#[inline(always)]
 fn whole_of(text: &[u8], at: usize) -> Scan
     requires { Reached text.now State.whole at (Some (T.IntegerLiteral, at)) }
     ensures { result ≡ longest text.now }
@@ -178,6 +186,7 @@ fn whole_of(text: &[u8], at: usize) -> Scan
 }
 
 // The number that starts with 0.
+#[inline(always)]
 fn zero_of(text: &[u8]) -> Scan
     requires { Reached text.now State.zero 1 (Some (T.IntegerLiteral, 1)) }
     ensures { result ≡ longest text.now }
@@ -202,6 +211,7 @@ fn zero_of(text: &[u8]) -> Scan
 }
 
 // The token that starts with a dot.
+#[inline(always)]
 fn dot_of(text: &[u8]) -> Scan
     requires { Reached text.now State.dot 1 (Some (T.Dot, 1)) }
     ensures { result ≡ longest text.now }
@@ -216,6 +226,7 @@ fn dot_of(text: &[u8]) -> Scan
 }
 
 // The number that starts with a sign.
+#[inline(always)]
 fn signed_of(text: &[u8]) -> Scan
     requires { Reached text.now State.signed 1 None }
     ensures { result ≡ longest text.now }
@@ -254,6 +265,7 @@ fn stop_of(double: bool) -> u8
 
 // The string that starts with `"` or `'`.
 // It goes on from mark to mark by `run`, so no iterator over bytes fits.
+#[inline(always)]
 fn string_of(text: &[u8], double: bool) -> Scan
     requires { Reached text.now (State.in_string double) 1 None }
     ensures { result ≡ longest text.now }
@@ -261,6 +273,7 @@ fn string_of(text: &[u8], double: bool) -> Scan
     let quote = quote_of(double);
     let stop = stop_of(double);
     let mut i: usize = 1;
+    // a step is a run of bytes, and a backslash with what it escapes
     loop {
         let j = run(text, i, stop, stop + 2);
         if text.len() <= j {
@@ -281,11 +294,13 @@ fn string_of(text: &[u8], double: bool) -> Scan
 
 // The block comment, its `/*` read.
 // It goes on from star to star by `find`.
+#[inline(always)]
 fn block_of(text: &[u8]) -> Scan
     requires { Reached text.now State.block 2 None }
     ensures { result ≡ longest text.now }
 {
     let mut i: usize = 2;
+    // a step goes to the next star
     loop {
         let j = find(text, i, b'*');
         if text.len() <= j {
@@ -302,6 +317,7 @@ fn block_of(text: &[u8]) -> Scan
 }
 
 // The comment that starts with a slash.
+#[inline(always)]
 fn slash_of(text: &[u8]) -> Scan
     requires { Reached text.now State.slash 1 None }
     ensures { result ≡ longest text.now }
@@ -321,11 +337,13 @@ fn slash_of(text: &[u8]) -> Scan
 
 // Where the identifier that goes on at `at` ends, a keyword or not.
 // It goes on from dot to dot by `run`.
+#[inline(always)]
 fn name_end(text: &[u8], at: usize) -> usize
     requires { Reached text.now State.named at (Some (T.Identifier, at)) }
     ensures { (longest text.now ≡ Some (T.Identifier, result)) × (at ≤ result) }
 {
     let mut i = run(text, at, DOT, ALL);
+    // a step is a part between dots
     while i < text.len() {
         if class_at(text, i) != DOT {
             return i;
@@ -346,6 +364,7 @@ fn name_end(text: &[u8], at: usize) -> usize
 }
 
 // The word that goes on at `at`, where no keyword begins with its bytes so far: none does with more.
+#[inline(always)]
 fn name_of(text: &[u8], at: usize) -> Scan
     requires { Reached text.now State.named at (Some (T.Identifier, at)) }
     ensures { result ≡ word_from no_keyword at text.now (longest text.now) }
@@ -363,6 +382,7 @@ pub fn word_extent(text: &[u8], at: usize) -> usize
 }
 
 // The word whose first piece ends at `i`, with this number: with a dot and a letter behind it it goes on.
+#[inline(always)]
 fn word_end(text: &[u8], i: usize, number: u8) -> Scan
     requires { (i < length text.now) × (36 ≤ class_of (get_or text.now i 0)) × Reached text.now State.named i (Some (T.Identifier, i)) × (number < numbers) }
     ensures { result ≡ word_from number i text.now (longest text.now) }
@@ -384,25 +404,30 @@ fn word_end(text: &[u8], i: usize, number: u8) -> Scan
 }
 
 // The word that goes on at `at`, its bytes so far known by their number alone: any number, whatever they were.
+#[inline(always)]
 fn word_from(text: &[u8], at: usize, number: u8) -> Scan
     requires { Reached text.now State.named at (Some (T.Identifier, at)) × (number < numbers) }
     ensures { result ≡ word_from number at text.now (longest text.now) }
 {
+    if number == words::NO_KEYWORD {
+        return name_of(text, at);
+    }
     let mut now = number;
     for i in at..text.len() {
-        if now == words::NO_KEYWORD {
-            return name_of(text, i);
-        }
         let k = class_at(text, i);
         if DOT <= k {
             return word_end(text, i, now);
         }
         now = words::step(now, k);
+        if now == words::NO_KEYWORD {
+            return name_of(text, i + 1);
+        }
     }
     Some((words::kind_of(now), text.len()))
 }
 
 // The identifier or keyword that starts with a letter of the class `first`.
+#[inline(always)]
 fn word_of(text: &[u8], first: u8) -> Scan
     requires { (0 < length text.now) × (first ≡ class_of (get_or text.now 0 0)) × (8 ≤ first) × (first < 36) × Reached text.now State.start 0 None }
     ensures { result ≡ word_from start 0 text.now (longest text.now) }
@@ -412,6 +437,7 @@ fn word_of(text: &[u8], first: u8) -> Scan
 }
 
 // The token of one byte, by its class.
+#[inline(always)]
 pub fn mark_of(k: u8) -> Scan
     ensures { result ≡ opened k }
 {
@@ -436,6 +462,7 @@ pub fn mark_of(k: u8) -> Scan
 }
 
 // The token that starts with a byte of the class k, which is no letter and no digit.
+#[inline(always)]
 fn sign_of(text: &[u8], k: u8) -> Scan
     requires { (0 < length text.now) × (k ≡ class_of (get_or text.now 0 0)) × (36 ≤ k) × Reached text.now State.start 0 None }
     ensures { result ≡ longest text.now }
@@ -465,6 +492,7 @@ fn sign_of(text: &[u8], k: u8) -> Scan
 }
 
 // The token that starts a text.
+#[inline(always)]
 fn token_of(text: &[u8]) -> Scan
     ensures { result ≡ scan text.now }
 {
@@ -485,6 +513,7 @@ fn token_of(text: &[u8]) -> Scan
 }
 
 // The token at an offset: the part of the text from there on is handed on.
+#[inline(always)]
 pub fn scan_token(text: &[u8], at: usize) -> Scan
     requires { at ≤ length text.now }
     ensures { result ≡ scan (drop at text.now) }

@@ -24,6 +24,7 @@ pub fn step(number: u8, k: u8) -> u8
 }
 
 // The kind of the word with this number.
+#[inline(always)]
 pub fn kind_of(number: u8) -> Token
     ensures { result ≡ kind_of number }
 {

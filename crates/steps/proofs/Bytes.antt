@@ -5,11 +5,11 @@
 --     falls_rests, fall_rest, rest_fall, rest_rest       of one behind another
 --     after_w, cond_w, cond_known, weak_w     through a call and what follows it, and a test
 --     opened_w, advanced_w        behind a node that is begun, and behind the token ahead
---     rested, fell        the same by the call that returned the state, or answered; quiet_left, still_left: by its contract
+--     rested              the same by the call that returned the state
 --     passed_is, comments_is      a skip is its first token, and then a skip
-use mathlib.Core.Path.{◌≡◌, refl, sym, ap, ◌∙◌}
+use mathlib.Core.Path.{◌≡◌, refl, sym, ◌∙◌}
 use mathlib.Core.Bool.{Bool, true, false, cond, false≢true}
-use mathlib.Core.List.{List, []}
+use mathlib.Core.List.{List}
 use Prim.Native.Nat.{ℕ, zero, suc, ◌+◌, ◌<◌, ◌≤◌}
 use native.Mathlib.Omega.{arith}
 use lib.Dec.{eqb, ltb}
@@ -23,47 +23,9 @@ use Rattle.lexer.specs.declared.location.Next.TheVariants as N
 use Rattle.lexer.specs.Tokens as L
 use Rattle.lexer.proofs.NextLaws.{next_inside}
 use Rattle.parser.proofs.KindLaws.{code_some}
-use Rattle.steps.specs.declared.packed.Range.{Range}
 use Rattle.steps.specs.declared.state.State.{State}
-use Rattle.std.specs.Prelude.{Ok}
 use Rattle.steps.specs.Packed.{unpacked}
-use Rattle.steps.specs.Into.{
-  Parsed,
-  Out,
-  done,
-  stop,
-  M,
-  after,
-  ◌⨟◌,
-  shows,
-  Quiet,
-  Still,
-  opened,
-  leaf_in,
-  node_in,
-  lexer_at,
-  look_at,
-  found,
-  found_at,
-  ahead_of,
-  advanced,
-  refused,
-  take_in,
-  expect_in,
-  bytes_left,
-  is_separator,
-  is_comment,
-  passes,
-  skip_from,
-  passed,
-  skip_in,
-  waits,
-  put_waiting,
-  skip_comments_from,
-  skip_comments_in,
-  own_in,
-  owns,
-}
+use Rattle.steps.specs.Into.{code_of, Out, done, stop, M, after, ◌⨟◌, numbered, token_of, loc_or, opened, leaf_in, node_in, lexer_at, look_at, found, found_at, ahead_of, advanced, refused, take_in, expect_in, bytes_left, is_separator, is_comment, passes, skip_from, passed, skip_in, waits, put_waiting, skip_comments_from, skip_comments_in, own_in, owns, Within, within, stopped, Falls, Rests}
 use Rattle.steps.proofs.PackLaws.{index_back}
 
 -- ---- one token further
@@ -80,9 +42,9 @@ module _ (text : List ℕ) where
       let b = end_or (ltb 65536 (lexer_at x).at) _ p e a.1 in
       (ltb-false 65536 (length text) a.0, (end_or (ltb (lexer_at x).at (lexer_at x).line) _ p e b.1).1)
 
-  fewer : (st : State) → eqb st.kind 255 ≡ false → (r : Next) → look_at text (unpacked st.loc.end) ≡ r
-      → bytes_left text (ahead_of (found st.loc.end r) st) < bytes_left text st
-  unfolding ahead_of found bytes_left lexer_at
+  fewer : (st : State) → eqb (code_of st) 255 ≡ false → (r : Next) → look_at text (unpacked st.loc.end) ≡ r
+      → bytes_left text (ahead_of (found r) st) < bytes_left text st
+  unfolding ahead_of found bytes_left lexer_at numbered token_of loc_or
   fewer st h (N.On p s) e =
       let l = looked (unpacked st.loc.end) s p e in
       let i = next_inside text (lexer_at (unpacked st.loc.end)) s p l.1 in
@@ -91,26 +53,16 @@ module _ (text : List ℕ) where
   fewer st h N.End e = rw h (omega arith)
   fewer st h (N.Unrecognized p) e = rw h (omega arith)
 
-  pub advance_falls : (st : State) → eqb st.kind 255 ≡ false → bytes_left text (advanced text st) < bytes_left text st
+  pub advance_falls : (st : State) → eqb (code_of st) 255 ≡ false → bytes_left text (advanced text st) < bytes_left text st
   unfolding advanced found_at
   advance_falls st h = fewer st h (look_at text (unpacked st.loc.end)) refl
 
   -- a comment that waits is still ahead
-  pub wait_falls : (st : State) → eqb st.kind 255 ≡ false → bytes_left text (advanced text (waits st)) < bytes_left text st
+  pub wait_falls : (st : State) → eqb (code_of st) 255 ≡ false → bytes_left text (advanced text (waits st)) < bytes_left text st
   unfolding waits bytes_left
   wait_falls st h = advance_falls (waits st) h
 
 -- ---- readers
-
-pub data Within (text : List ℕ) (x b : ℕ) : Out → Type 0 where
-  within : {st : State} {t u : List ℕ} → x + bytes_left text st ≤ b → Within text x b (done st t u)
-  stopped : {e : ℕ} {l : Range} → Within text x b (stop e l)
-
-abbrev pub Falls : List ℕ → M → Type 0
-Falls text m = (st : State) (t u : List ℕ) → Within text 1 (bytes_left text st) (m st t u)
-
-abbrev pub Rests : List ℕ → M → Type 0
-Rests text m = (st : State) (t u : List ℕ) → Within text 0 (bytes_left text st) (m st t u)
 
 module _ {text : List ℕ} where
   pub weak_w : {x y a b : ℕ} {o : Out} → ((n : ℕ) → x + n ≤ a → y + n ≤ b) → Within text x a o → Within text y b o
@@ -155,31 +107,21 @@ module _ {text : List ℕ} where
 
   -- ---- by the call
 
-  left_by : {x b : ℕ} {o : Out} {st : State} {t u : List ℕ} → Within text x b o → done st t u ≡ o → x + bytes_left text st ≤ b
-  left_by {st = st} (within {st = st₁} h) e = let a : st ≡ st₁ = cc in rw a h
-  left_by stopped e = let z : ◌≡◌ {A = ℕ} 0 1 = cc in absurd (omega arith)
+  pub within_left : {x b : ℕ} {o : Out} {st : State} {t u : List ℕ} → Within text x b o → done st t u ≡ o → x + bytes_left text st ≤ b
+  within_left {st = st} (within {st = st₁} h) e = let a : st ≡ st₁ = cc in rw a h
+  within_left stopped e = let z : ◌≡◌ {A = ℕ} 0 1 = cc in absurd (omega arith)
 
   pub rested : (m : M) → Rests text m → (st : State) (t u : List ℕ) {st' : State} {t' u' : List ℕ} → done st' t' u' ≡ m st t u → bytes_left text st' ≤ bytes_left text st
-  rested m f st t u e = omega (arith, left_by (f st t u) e)
-
-  pub fell : (m : M) → Falls text m → (a : Parsed) (st : State) (t u : List ℕ) (st' : State) (t' u' : List ℕ) → shows a t' u' ≡ m st t u → a ≡ Ok st'
-      → bytes_left text st' < bytes_left text st
-  unfolding shows
-  fell m f a st t u st' t' u' e h = omega (arith, left_by (f st t u) (sym (ap (λ (x : Parsed). shows x t' u') h) ∙ e))
-
--- by the contract, whatever the tables
-pub quiet_left : (text : List ℕ) (m : M) → Falls text m → (a : Parsed) (st st' : State) (t t' : List ℕ) → Quiet m st a t t' → a ≡ Ok st'
-    → bytes_left text st' < bytes_left text st
-quiet_left text m f a st st' t t' e h = fell m f a st t [] st' t' [] (e []) h
-
-pub still_left : (text : List ℕ) (m : M) → Falls text m → (a : Parsed) (st st' : State) → Still m st a → a ≡ Ok st' → bytes_left text st' < bytes_left text st
-still_left text m f a st st' e h = fell m f a st [] [] st' [] [] (e [] []) h
+  rested m f st t u e = omega (arith, within_left (f st t u) e)
 
 -- ---- the steps
 
-pub refused_w : {text : List ℕ} {x b : ℕ} (e : ℕ) (st : State) → Within text x b (refused e st)
+refused_is : (e : ℕ) (st : State) (t u : List ℕ) → refused e st t u ≡ cond (eqb (code_of st) 255) (stop 3 st.last t u) (stop e st.loc t u)
 unfolding refused
-refused_w e st = cond_w (eqb st.kind 255) stopped stopped
+refused_is e st t u = refl
+
+pub refused_w : {text : List ℕ} {x b : ℕ} (e : ℕ) (st : State) (t u : List ℕ) → Within text x b (refused e st t u)
+refused_w e st t u = rw (refused_is e st t u) (cond_w (eqb (code_of st) 255) stopped stopped)
 
 -- a test of the kind ahead that fails where none is
 pub some_by : (g : ℕ → Bool) → g 255 ≡ false → (k : ℕ) → g k ≡ true → eqb k 255 ≡ false
@@ -194,24 +136,24 @@ module _ (text : List ℕ) where
   stays_w st t u = within {st = st} (omega arith)
 
   -- the token ahead is taken first
-  pub advanced_w : {x : ℕ} {o : Out} (st : State) → eqb st.kind 255 ≡ false → Within text x (bytes_left text (advanced text st)) o
+  pub advanced_w : {x : ℕ} {o : Out} (st : State) → eqb (code_of st) 255 ≡ false → Within text x (bytes_left text (advanced text st)) o
       → Within text (suc x) (bytes_left text st) o
   advanced_w st e h = let l = advance_falls text st e in weak_w (λ n i. omega arith) h
 
-  by_none : {X : Type 0} (st : State) → (eqb st.kind 255 ≡ true → X) → (eqb st.kind 255 ≡ false → X) → X
-  by_none {X} st f g = go (eqb st.kind 255) refl
+  by_none : {X : Type 0} (st : State) → (eqb (code_of st) 255 ≡ true → X) → (eqb (code_of st) 255 ≡ false → X) → X
+  by_none {X} st f g = go (eqb (code_of st) 255) refl
     where
-      go : (b : Bool) → eqb st.kind 255 ≡ b → X
+      go : (b : Bool) → eqb (code_of st) 255 ≡ b → X
       go true e = f e
       go false e = g e
 
   pub take_falls : Falls text (take_in text)
   unfolding take_in
-  take_falls st t u = by_none st (λ e. rw e (refused_w 3 st)) (λ e. rw e (within {st = advanced text st} (omega (arith, advance_falls text st e))))
+  take_falls st t u = by_none st (λ e. rw e (refused_w 3 st _ _)) (λ e. rw e (within {st = advanced text st} (omega (arith, advance_falls text st e))))
 
   pub expect_falls : (k e : ℕ) → Falls text (expect_in text k e)
   unfolding expect_in
-  expect_falls k e st t u = cond_w (eqb st.kind k) (take_falls st t u) (refused_w e st)
+  expect_falls k e st t u = cond_w (eqb (code_of st) k) (take_falls st t u) (refused_w e st _ _)
 
   pub leaf_rests : (k b p : ℕ) → Rests text (leaf_in k b p)
   unfolding leaf_in opened bytes_left
@@ -229,9 +171,6 @@ module _ (text : List ℕ) where
   pub opened_left : (st : State) → bytes_left text (opened st) ≡ bytes_left text st
   unfolding opened bytes_left
   opened_left st = refl
-
-  pub opened_by : (x st : State) → x ≡ opened st → bytes_left text x ≡ bytes_left text st
-  opened_by x st h = ap (bytes_left text) h ∙ opened_left st
 
   pub opened_w : {x : ℕ} {o : Out} (st : State) → Within text x (bytes_left text (opened st)) o → Within text x (bytes_left text st) o
   opened_w st h = rw opened_left at h
@@ -261,25 +200,25 @@ module _ (text : List ℕ) (s : Bool) where
   skip_fuel zero m st f g = absurd (omega arith)
   skip_fuel (suc n) zero st f g = absurd (omega arith)
   skip_fuel (suc n) (suc m) st f g =
-      cond_same (passes st.kind s)
-      (λ e. let l = advance_falls text st (passes_some st.kind s e) in skip_fuel n m (advanced text st) (omega arith) (omega arith)) (λ e. refl)
+      cond_same (passes (code_of st) s)
+      (λ e. let l = advance_falls text st (passes_some (code_of st) s e) in skip_fuel n m (advanced text st) (omega arith) (omega arith)) (λ e. refl)
 
   -- a skip is its first token, and then a skip
-  pub passed_is : (st : State) → passed text s st ≡ cond (passes st.kind s) (passed text s (advanced text st)) st
+  pub passed_is : (st : State) → passed text s st ≡ cond (passes (code_of st) s) (passed text s (advanced text st)) st
   unfolding passed skip_from
   passed_is st =
-      cond_same (passes st.kind s)
-      (λ e. let l = advance_falls text st (passes_some st.kind s e) in
+      cond_same (passes (code_of st) s)
+      (λ e. let l = advance_falls text st (passes_some (code_of st) s e) in
       skip_fuel (bytes_left text st) (suc (bytes_left text (advanced text st))) (advanced text st) (omega arith) (omega arith)) (λ e. refl)
 
   skip_left : (n : ℕ) (st : State) → bytes_left text (skip_from text s n st) ≤ bytes_left text st
   unfolding skip_from
   skip_left zero st = omega arith
-  skip_left (suc n) st = go (passes st.kind s) refl (skip_left n (advanced text st))
+  skip_left (suc n) st = go (passes (code_of st) s) refl (skip_left n (advanced text st))
     where
-      go : (b : Bool) → passes st.kind s ≡ b → bytes_left text (skip_from text s n (advanced text st)) ≤ bytes_left text (advanced text st)
+      go : (b : Bool) → passes (code_of st) s ≡ b → bytes_left text (skip_from text s n (advanced text st)) ≤ bytes_left text (advanced text st)
           → bytes_left text (cond b (skip_from text s n (advanced text st)) st) ≤ bytes_left text st
-      go true e h = let l = advance_falls text st (passes_some st.kind s e) in omega arith
+      go true e h = let l = advance_falls text st (passes_some (code_of st) s e) in omega arith
       go false e h = omega arith
 
   pub skip_rests : Rests text (skip_in text s)
@@ -292,31 +231,31 @@ module _ (text : List ℕ) (s : Bool) where
   comments_fuel zero m st t u f g = absurd (omega arith)
   comments_fuel (suc n) zero st t u f g = absurd (omega arith)
   comments_fuel (suc n) (suc m) st t u f g =
-      cond_same (is_comment st.kind)
-      (λ e. let l = wait_falls text st (comment_some st.kind e) in comments_fuel n m (advanced text (waits st)) t (put_waiting st u) (omega arith) (omega arith))
-      (λ e. cond_same s (λ i. cond_same (is_separator st.kind)
-      (λ e. let l = advance_falls text st (separator_some st.kind e) in comments_fuel n m (advanced text st) t u (omega arith) (omega arith)) (λ e. refl)) (λ i. refl))
+      cond_same (is_comment (code_of st))
+      (λ e. let l = wait_falls text st (comment_some (code_of st) e) in comments_fuel n m (advanced text (waits st)) t (put_waiting st u) (omega arith) (omega arith))
+      (λ e. cond_same s (λ i. cond_same (is_separator (code_of st))
+      (λ e. let l = advance_falls text st (separator_some (code_of st) e) in comments_fuel n m (advanced text st) t u (omega arith) (omega arith)) (λ e. refl)) (λ i. refl))
 
   pub comments_is : (st : State) (t u : List ℕ) → skip_comments_in text s st t u
-      ≡ cond (is_comment st.kind) (skip_comments_in text s (advanced text (waits st)) t (put_waiting st u))
-      (cond s (cond (is_separator st.kind) (skip_comments_in text s (advanced text st) t u) (done st t u)) (done st t u))
+      ≡ cond (is_comment (code_of st)) (skip_comments_in text s (advanced text (waits st)) t (put_waiting st u))
+      (cond s (cond (is_separator (code_of st)) (skip_comments_in text s (advanced text st) t u) (done st t u)) (done st t u))
   unfolding skip_comments_in skip_comments_from
   comments_is st t u =
-      cond_same (is_comment st.kind)
-      (λ e. let l = wait_falls text st (comment_some st.kind e) in
+      cond_same (is_comment (code_of st))
+      (λ e. let l = wait_falls text st (comment_some (code_of st) e) in
       comments_fuel (bytes_left text st) (suc (bytes_left text (advanced text (waits st)))) (advanced text (waits st)) t (put_waiting st u) (omega arith) (omega arith))
-      (λ e. cond_same s (λ i. cond_same (is_separator st.kind)
-      (λ e. let l = advance_falls text st (separator_some st.kind e) in
+      (λ e. cond_same s (λ i. cond_same (is_separator (code_of st))
+      (λ e. let l = advance_falls text st (separator_some (code_of st) e) in
       comments_fuel (bytes_left text st) (suc (bytes_left text (advanced text st))) (advanced text st) t u (omega arith) (omega arith)) (λ e. refl)) (λ i. refl))
 
   comments_left_law : (n : ℕ) → Rests text (skip_comments_from text s n)
   unfolding skip_comments_from
   comments_left_law zero st t u = within {st = st} (omega arith)
   comments_left_law (suc n) st t u =
-      cond_known (is_comment st.kind)
-      (λ e. let l = wait_falls text st (comment_some st.kind e) in weak_w (λ n h. omega arith) (comments_left_law n (advanced text (waits st)) t (put_waiting st u)))
-      (λ e. cond_w s (cond_known (is_separator st.kind)
-      (λ e. let l = advance_falls text st (separator_some st.kind e) in weak_w (λ n h. omega arith) (comments_left_law n (advanced text st) t u))
+      cond_known (is_comment (code_of st))
+      (λ e. let l = wait_falls text st (comment_some (code_of st) e) in weak_w (λ n h. omega arith) (comments_left_law n (advanced text (waits st)) t (put_waiting st u)))
+      (λ e. cond_w s (cond_known (is_separator (code_of st))
+      (λ e. let l = advance_falls text st (separator_some (code_of st) e) in weak_w (λ n h. omega arith) (comments_left_law n (advanced text st) t u))
       (λ e. within {st = st} (omega arith))) (within {st = st} (omega arith)))
 
   pub comments_rests : Rests text (skip_comments_in text s)

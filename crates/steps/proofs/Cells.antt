@@ -1,17 +1,18 @@
 -- Laws of a table's numbers: what the stores of a record write, and what is left to wipe.
 use mathlib.Core.Path.{◌≡◌, refl, sym, ap, ◌∙◌}
-use mathlib.Core.List.{List, [], ◌∷◌, ◌++◌, append-nil, append_assoc}
+use mathlib.Core.List.{List, [], ◌∷◌, ◌++◌, append_assoc}
 use mathlib.Core.Bool.{Bool, true, false, cond}
 use Prim.Native.Nat.{ℕ, min, suc, ◌+◌, ◌*◌, ◌-◌, ◌/◌, ◌≤◌, ◌<◌}
 use native.Mathlib.Omega.{arith}
 use borrow.Author.Tests.{le-leb, lt-leb, leb-true, leb-false, ltb-true, ltb-false}
 use lib.Dec.{leb, ltb}
-use borrow.Rule.Slice.PartMut.{put_mid}
-use lib.ListN.{drop_of_length-le, length, take, drop, set, get_or, replicate, length-set, length-append, length-drop}
-use lib.Seq.{sets-eq, set_at, drop-cons, length-take-le, take-suc-set, take_all, append_snoc}
+use lib.ListN.{length, take, drop, set, get_or, replicate, length-append, length-drop}
+use lib.Seq.{sets-eq, set_at, drop-cons, length-take-le}
 use Rattle.lexer.specs.declared.location.LOC.{LOC}
 use Rattle.ast.specs.Column.{Past}
 use Rattle.ast.specs.Records.{comment_width, node_width, row, node_row, room, cleared}
+use Rattle.ast.specs.Clear.{Cleared}
+use Rattle.ast.proofs.ClearLaws.{cleared_by, cleared_all}
 use Rattle.ast.proofs.Counts.{Wide, node_row_width}
 use Rattle.steps.specs.declared.packed.Range.{Range}
 use Rattle.steps.specs.Packed.{unpacked, unpacked_loc}
@@ -91,28 +92,18 @@ module _ (i : ℕ) where
   unfolding put_owner room
   owner_on p t h = rw (lt-leb _ _ h)
 
--- one number more is 0; all are
-pub wipe_step : (i : ℕ) (t : List ℕ) → i < length t → wiped (i + 1) (set t i 0) ≡ wiped i t
-unfolding wiped
-wipe_step i t h =
-    let e : i + 1 ≡ suc i = omega arith in
-    let n : length t - i ≡ suc (length t - suc i) = omega arith in
-    rw (length-set, e, take-suc-set t i 0 h, n) (append_snoc (take i t) 0 (replicate (length t - suc i) 0))
-
-pub wipe_done : (i : ℕ) (t : List ℕ) → length t ≤ i → wiped i t ≡ t
-unfolding wiped
-wipe_done i t h = let n : length t - i ≡ 0 = omega arith in rw (n, take_all i t h) (append-nil t)
-
 pub wipe_all : (t : List ℕ) → wiped 0 t ≡ cleared t
 unfolding wiped cleared
 wipe_all t = let n : length t - 0 ≡ length t = omega arith in rw n
 
--- a part from an index on that became 0
-pub wipe_part : (n : ℕ) (l ys : List ℕ) → n ≤ length l → ys ≡ replicate (length (take (length l - n) (drop n l))) 0 → put_mid n (length l - n) l ys ≡ wiped n l
+-- what clear leaves
+pub clears : (n : ℕ) (l l' : List ℕ) → Cleared (λ z. z ≡ 0) n l l' → l' ≡ wiped n l
 unfolding wiped
-wipe_part n l ys h e =
-    let s : length (drop n l) ≤ length l - n = omega (arith, length-drop n l) in
-    rw (e, take_all (length l - n) (drop n l) s, length-drop n l, drop_of_length-le (drop n l) {i = length l - n} s, append-nil)
+clears n l l' c = cleared_by 0 n l l' c
+
+pub cleared_of : (z : ℕ) (l l' : List ℕ) → z ≡ 0 → l' ≡ replicate (length l - 0) z → l' ≡ cleared l
+unfolding cleared
+cleared_of z l l' e h = cleared_all 0 l l' (z, e, h)
 
 pub sum_least : (a b : ℕ) → b ≤ 4294967295 → min (a + b) 4294967295 ≡ sum a b
 unfolding sum

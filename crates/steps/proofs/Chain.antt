@@ -1,96 +1,109 @@
--- A reader of the code, call by call: W is what the whole is, and each law takes one call more.
---     on, off      a call that answered, and one that refused
---     kept         a call that returned the state
---     last         the last call, whose answer is returned; ret, ends: the state that is returned
---     fails        a refusal at the token ahead
---     yes, no      a test
---     node         the node's own record, and the state returned
-use mathlib.Core.Path.{◌≡◌, sym, ap, ap₂, ◌∙◌}
+-- A function of the readers' code, call by call: Z is what the whole does, and each law takes one step more.
+--     begins                    before the first call
+--     so                        the same, by what else it is
+--     kept, on                  a call behind which the function goes on: one that refuses nothing, one that answered
+--     off                       a call that refused: `?` hands its error on
+--     last, ends                the last call; nothing more to do
+--     does                      what the body itself writes
+--     halts                     a refusal at the token ahead
+--     when, unless              a test, by what decides it
+--     left_by, text_by          what a call leaves
+use mathlib.Core.Path.{◌≡◌, refl, sym, ap, ◌∙◌}
 use mathlib.Core.Bool.{Bool, true, false, cond}
 use mathlib.Core.List.{List}
 use Prim.Native.Nat.{ℕ}
-use lib.Dec.{eqb}
-use borrow.Author.Tests.{eq-eqb, ne_eqb}
-use Rattle.steps.specs.declared.state.State.{State}
-use Rattle.std.specs.Prelude.{Ok, Err}
+use Rattle.std.specs.Prelude.{⊤, Ok, Err}
 use Rattle.std.specs.Result.{IsErr, IsErrAnd}
 use Rattle.std.proofs.lemmas.Result.{err_from_is_err_and}
+use Rattle.lexer.specs.Refusal.{number_of}
+use Rattle.lexer.specs.declared.error.ErrorKind.{ErrorKind}
+use Rattle.steps.specs.declared.state.Parser.{Parser}
+use Rattle.steps.specs.declared.state.State.{State}
 use Rattle.steps.specs.declared.state.Raised.{Raised}
-use Rattle.steps.specs.Into.{Parsed, Out, done, M, after, shows, node_in, put_node, refused, refuse_in, advanced, advance_in}
+use Rattle.steps.specs.Into.{Out, done, stop, M, after, refused}
+use Rattle.steps.specs.Reads.{Source, source, Parsed, tells, Reads, Does}
 
-module _ (W m : Out) (k : M) (w : W ≡ after m k) where
-  pub on : (a : Parsed) (st : State) (t u : List ℕ) → shows a t u ≡ m → a ≡ Ok st → W ≡ k st t u
-  unfolding after shows
-  on a st t u e h = w ∙ ap (λ (x : Out). after x k) (sym e ∙ ap (λ (x : Parsed). shows x t u) h)
+-- X is what is left to do, from the parser t, and s is the parser that the function began with
+pub record Left (Z : Out) (s : Parser) (X : Out) (t : Parser) : Type 0 where
+  pub goes : Z ≡ X
+  pub same : source t ≡ source s
+  pub lent : t.nodes.ghost_name ≡ s.nodes.ghost_name
+  pub wide : t.comments.ghost_name ≡ s.comments.ghost_name
 
-  -- a `?` hands the error on
-  pub off : (a b : Parsed) (r : Raised) (t u : List ℕ) → shows a t u ≡ m → a ≡ Err r → IsErr b × IsErrAnd b (λ e. e ≡ r) → (t' u' : List ℕ) → shows b t' u' ≡ W
-  unfolding after shows
-  off a b r t u s h f t' u' =
-      let p = err_from_is_err_and b f.1 in
-      let g : b ≡ Err r = cc in
-      ap (λ (x : Parsed). shows x t' u') g ∙ sym (w ∙ ap (λ (x : Out). after x k) (sym s ∙ ap (λ (x : Parsed). shows x t u) h))
+pub begins : {Z X : Out} {s : Parser} → Z ≡ X → Left Z s X s
+begins e = record { goes = e; same = refl; lent = refl; wide = refl }
 
-  pub kept : (st : State) (t u : List ℕ) → done st t u ≡ m → W ≡ k st t u
-  unfolding after
-  kept st t u e = w ∙ ap (λ (x : Out). after x k) (sym e)
+pub so : {Z X : Out} {s t : Parser} (Y : Out) → X ≡ Y → Left Z s X t → Left Z s Y t
+so Y e v = record { goes = v.goes ∙ e; same = v.same; lent = v.lent; wide = v.wide }
 
-pub last : (W m : Out) (a : Parsed) (t u : List ℕ) → W ≡ m → shows a t u ≡ m → shows a t u ≡ W
-last W m a t u w e = e ∙ sym w
+-- where a call leads, told by the source that the function began with
+told : (x : Source) {t u : Parser} {m : Source → M} {r : Parsed} → Reads m t u r → source t ≡ x → tells r u.state u.nodes.now u.comments.now ≡ m x t.state t.nodes.now t.comments.now
+told x {t} {u} {m} w e = w.goes ∙ ap (λ (y : Source). m y t.state t.nodes.now t.comments.now) e
 
-pub node : (W : Out) (n k f s b p : ℕ) (st : State) (t u t' : List ℕ) → W ≡ node_in n k f s b p st t u → t' ≡ put_node n k f s b p st t →
-    shows (Ok st) t' u ≡ W
-unfolding node_in shows
-node W n k f s b p st t u t' w e = ap (λ (x : List ℕ). done st x u) e ∙ sym w
+pub on : {Z : Out} {s t u : Parser} {m : Source → M} {r : Parsed} {x : ⊤} → Reads m t u r → r ≡ Ok x → (k : M) → Left Z s (after (m (source s) t.state t.nodes.now t.comments.now) k) t
+    → Left Z s (k u.state u.nodes.now u.comments.now) u
+unfolding after tells
+on {Z} {s} {t} {u} {m} {r} w h k v =
+    let e : done u.state u.nodes.now u.comments.now ≡ m (source s) t.state t.nodes.now t.comments.now =
+    sym (ap (λ (x : Parsed). tells x u.state u.nodes.now u.comments.now) h) ∙ told (source s) w v.same in
+    record { goes = v.goes ∙ ap (λ (x : Out). after x k) (sym e); same = w.same ∙ v.same; lent = w.lent ∙ v.lent; wide = w.wide ∙ v.wide }
 
--- the state that a step was given, by what it is
-pub given : (m : M) (x y : State) (o : Out) (t u : List ℕ) → x ≡ y → o ≡ m x t u → o ≡ m y t u
-given m x y o t u h e = e ∙ ap (λ (z : State). m z t u) h
+pub kept : {Z : Out} {s t u : Parser} {m : Source → M} → Does m t u → (k : M) → Left Z s (after (m (source s) t.state t.nodes.now t.comments.now) k) t
+    → Left Z s (k u.state u.nodes.now u.comments.now) u
+kept w k v = on w refl k v
 
--- the state that is returned, or that the last step returned
-pub ret : (W : Out) (st : State) (t u : List ℕ) → W ≡ done st t u → shows (Ok st) t u ≡ W
-unfolding shows
-ret W st t u w = sym w
+pub off : {W : Source → M} {s t u : Parser} {m : Source → M} {r a : Parsed} {e : Raised} → Reads m t u r → r ≡ Err e → IsErr a × IsErrAnd a (λ y. y ≡ e) → (k : M)
+    → Left (W (source s) s.state s.nodes.now s.comments.now) s (after (m (source s) t.state t.nodes.now t.comments.now) k) t → Reads W s u a
+unfolding after tells
+off {W} {s} {t} {u} {m} {r} {a} {e} w h g k v =
+    let f : stop (number_of e.kind) e.loc u.nodes.now u.comments.now ≡ m (source s) t.state t.nodes.now t.comments.now =
+    sym (ap (λ (x : Parsed). tells x u.state u.nodes.now u.comments.now) h) ∙ told (source s) w v.same in
+    let p = err_from_is_err_and a g.1 in
+    let q : a ≡ Err e = cc in
+    record {
+      goes = ap (λ (x : Parsed). tells x u.state u.nodes.now u.comments.now) q ∙ sym (v.goes ∙ ap (λ (x : Out). after x k) (sym f));
+      same = w.same ∙ v.same;
+      lent = w.lent ∙ v.lent;
+      wide = w.wide ∙ v.wide;
+    }
 
-pub ends : (W m : Out) (st : State) (t u : List ℕ) → W ≡ m → done st t u ≡ m → shows (Ok st) t u ≡ W
-unfolding shows
-ends W m st t u w e = e ∙ sym w
+pub last : {W : Source → M} {s t u : Parser} {m : Source → M} {r : Parsed} → Reads m t u r
+    → Left (W (source s) s.state s.nodes.now s.comments.now) s (m (source s) t.state t.nodes.now t.comments.now) t → Reads W s u r
+last {W} {s} w v = record {
+  goes = told (source s) w v.same ∙ sym v.goes;
+  same = w.same ∙ v.same;
+  lent = w.lent ∙ v.lent;
+  wide = w.wide ∙ v.wide;
+}
 
--- a refusal at the token ahead
-pub fails : (W : Out) (e : ℕ) (st : State) (a : Parsed) (t u : List ℕ) → W ≡ refused e st → shows a t u ≡ refuse_in e st t u → shows a t u ≡ W
-unfolding refuse_in
-fails W e st a t u w s = s ∙ sym w
+pub ends : {W : Source → M} {s t : Parser} → Left (W (source s) s.state s.nodes.now s.comments.now) s (done t.state t.nodes.now t.comments.now) t → Does W s t
+unfolding tells
+ends v = record { goes = sym v.goes; same = v.same; lent = v.lent; wide = v.wide }
 
--- a test of the token ahead, or by a function
-pub yes : (W A B : Out) (x k : ℕ) → W ≡ cond (eqb x k) A B → x ≡ k → W ≡ A
-yes W A B x k w h = w ∙ ap (λ (b : Bool). cond b A B) (eq-eqb x k h)
+-- what the body itself writes
+pub does : {W : Source → M} {s t : Parser} → done t.state t.nodes.now t.comments.now ≡ W (source s) s.state s.nodes.now s.comments.now → source t ≡ source s
+    → t.nodes.ghost_name ≡ s.nodes.ghost_name → t.comments.ghost_name ≡ s.comments.ghost_name → Does W s t
+unfolding tells
+does e h l w = record { goes = e; same = h; lent = l; wide = w }
 
-pub no : (W A B : Out) (x k : ℕ) → W ≡ cond (eqb x k) A B → (x ≡ k → ⊥) → W ≡ B
-no W A B x k w h = w ∙ ap (λ (b : Bool). cond b A B) (ne_eqb x k h)
+pub halts : {W : Source → M} {s t : Parser} {e : Raised} (st : State) (k : ErrorKind) → ((x y : List ℕ) → stop (number_of e.kind) e.loc x y ≡ refused (number_of k) st x y)
+    → Left (W (source s) s.state s.nodes.now s.comments.now) s (refused (number_of k) st t.nodes.now t.comments.now) t → Reads W s t (Err e)
+unfolding tells
+halts {t = t} st k h v = record { goes = h t.nodes.now t.comments.now ∙ sym v.goes; same = v.same; lent = v.lent; wide = v.wide }
 
-pub yes_by : (W A B : Out) (b r : Bool) → W ≡ cond b A B → r ≡ b → r ≡ true → W ≡ A
-yes_by W A B b r w e h = w ∙ ap (λ (x : Bool). cond x A B) (sym e ∙ h)
+-- ---- tests
 
-pub no_by : (W A B : Out) (b r : Bool) → W ≡ cond b A B → r ≡ b → r ≡ false → W ≡ B
-no_by W A B b r w e h = w ∙ ap (λ (x : Bool). cond x A B) (sym e ∙ h)
+module _ {Z : Out} {s t : Parser} (A B : Out) where
+  pub when : (b r : Bool) → r ≡ b → r ≡ true → Left Z s (cond b A B) t → Left Z s A t
+  when b r e h = so A (ap (λ (x : Bool). cond x A B) (sym e ∙ h))
 
--- a node's own record, with more behind it
-pub noted : (n k f s b p : ℕ) (st : State) (t u t' : List ℕ) → t' ≡ put_node n k f s b p st t → done st t' u ≡ node_in n k f s b p st t u
-unfolding node_in
-noted n k f s b p st t u t' e = ap (λ (x : List ℕ). done st x u) e
+  pub unless : (b r : Bool) → r ≡ b → r ≡ false → Left Z s (cond b A B) t → Left Z s B t
+  unless b r e h = so B (ap (λ (x : Bool). cond x A B) (sym e ∙ h))
 
--- the same where the flags and the start were computed by calls
-pub node_by : (W : Out) (n k f s b p : ℕ) (st : State) (t u t' : List ℕ) (g r : ℕ) → W ≡ node_in n k f s b p st t u →
-    t' ≡ put_node n k g r b p st t → g ≡ f → r ≡ s → shows (Ok st) t' u ≡ W
-node_by W n k f s b p st t u t' g r w e h i =
-    node W n k f s b p st t u t' w (e ∙ ap₂ (λ (x y : ℕ). put_node n k x y b p st t) h i)
+-- what a call that refuses nothing leaves
+pub left_by : {m : Source → M} {s t : Parser} {st : State} {a b : List ℕ} → Does m s t → m (source s) s.state s.nodes.now s.comments.now ≡ done st a b → t.state ≡ st
+unfolding tells
+left_by {m} {s} {t} {st} {a} {b} w e = let h : done t.state t.nodes.now t.comments.now ≡ done st a b = w.goes ∙ e in cc
 
--- the state that an advance returned
-pub done_by : (W : Out) (text : List ℕ) (st st' : State) (t u : List ℕ) → W ≡ advance_in text st t u → st' ≡ advanced text st → done st' t u ≡ W
-unfolding advance_in
-done_by W text st st' t u w e = ap (λ (x : State). done x t u) e ∙ sym w
-
--- the state that is returned, by what it is
-pub ends_at : (W : Out) (st st' : State) (t u : List ℕ) → W ≡ done st t u → st' ≡ st → shows (Ok st') t u ≡ W
-unfolding shows
-ends_at W st st' t u w e = ap (λ (x : State). done x t u) e ∙ sym w
+pub text_by : {m : Source → M} {s t : Parser} {r : Parsed} → Reads m s t r → t.text.now ≡ s.text.now
+text_by w = ap (λ (x : Source). x.text) w.same

@@ -4,6 +4,8 @@ pub mod Bytes
 pub mod LoopForms
 pub mod Cells
 pub mod Turns
+pub mod Shapes
+pub mod AheadTests
 pub mod Digits
 pub mod TableLaws
 pub mod ForestLaws

@@ -24,6 +24,11 @@ use Rattle.steps.specs.declared.state.State.{State}
 use Rattle.parser.specs.Steps.{place, span, St, pos, Raised, Res, ok, no, P, bind, test, next, when, peek, closed, loop, many}
 use Rattle.steps.specs.Packed.{unpacked, unpacked_loc}
 use Rattle.steps.specs.Into.{
+  Within,
+  within,
+  Falls,
+  Rests,
+  code_of,
   Out,
   done,
   stop,
@@ -48,7 +53,7 @@ use Rattle.steps.proofs.TableLaws.{lay, lay_append, put_lay, owners_lay, node_so
 use Rattle.steps.proofs.ForestLaws.{◌⊕◌, plus_bare, plus_assoc, sizes_plus, counts_plus, rows_plus, notes_plus}
 use Rattle.steps.proofs.Seen.{small_bump, small_sum, last_of, waiting_of, Frame, At, less, regrown, few_left, number, Meant, went, halted, within_m, bind_m, last_m}
 use Rattle.steps.proofs.StepLaws.{some_ahead, tested, step_at, Wanted, emptied}
-use Rattle.steps.proofs.Bytes.{Within, within, weak_w, Falls, Rests}
+use Rattle.steps.proofs.Bytes.{weak_w}
 use Rattle.steps.proofs.LoopForms.{loop_is}
 
 -- ---- a node begins
@@ -197,10 +202,10 @@ leaf_m k halted = halted
 pub data Turn (text : List ℕ) (i b p : ℕ) (fr : Frame) (f : Forest) (closes : State → Bool) (shut : M) : Out → Res Bool → Type 0 where
   shuts : {st st' : State} {t u t' u' : List ℕ} {s : St} → closes st ≡ true → shut st t u ≡ done st' t' u' → At text i b p fr f st' t' u' s
       → Turn text i b p fr f closes shut (done st t u) (ok true s)
-  refuses : {st : State} {t u : List ℕ} {r : Raised} {l : Range} → closes st ≡ true → shut st t u ≡ stop (number r) l
+  refuses : {st : State} {t u : List ℕ} {r : Raised} {l : Range} → closes st ≡ true → shut st t u ≡ stop (number r) l t u
       → Turn text i b p fr f closes shut (done st t u) (no r (unpacked_loc l))
   goes : {st : State} {t u : List ℕ} {s : St} → closes st ≡ false → At text i b p fr f st t u s → Turn text i b p fr f closes shut (done st t u) (ok false s)
-  halts : {r : Raised} {l : Range} → Turn text i b p fr f closes shut (stop (number r) l) (no r (unpacked_loc l))
+  halts : {r : Raised} {l : Range} {t u : List ℕ} → Turn text i b p fr f closes shut (stop (number r) l t u) (no r (unpacked_loc l))
 
 module _ {text : List ℕ} {i b p : ℕ} {fr : Frame} {f : Forest} {closes : State → Bool} {shut : M} {A : Type 0} {Q : A → State → List ℕ → List ℕ → St → Type 0} where
   pub turn_after : {o : Out} {r : Res A} {k : M} {g : A → P Bool} → Meant Q o r
@@ -217,7 +222,7 @@ module _ {text : List ℕ} {i b p : ℕ} {fr : Frame} {f : Forest} {closes : Sta
   turn_last (went {a = a} {st = st} {t = t} {u = u} {s = s} q) g = g a st t u s q
   turn_last halted g = halts
 
-take_known : (text : List ℕ) (st : State) (t u : List ℕ) → eqb st.kind 255 ≡ false → take_in text st t u ≡ done (advanced text st) t u
+take_known : (text : List ℕ) (st : State) (t u : List ℕ) → eqb (code_of st) 255 ≡ false → take_in text st t u ≡ done (advanced text st) t u
 unfolding take_in
 take_known text st t u e = rw e
 

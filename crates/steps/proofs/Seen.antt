@@ -38,14 +38,12 @@ use Rattle.steps.specs.declared.packed.Range.{Range}
 use Rattle.steps.specs.declared.state.State.{State}
 use Rattle.parser.specs.Steps.{kind, bytes, place, St, pos, Raised, raise, Res, ok, no, P, bind, test, needs, next}
 use Rattle.parser.specs.Definitions.{is_id}
-use Rattle.parser.proofs.KindLaws.{code_some}
 use Rattle.ast.specs.Largest.{bump}
 use Rattle.steps.specs.Packed.{packed, unpacked, unpacked_loc}
-use Rattle.steps.specs.Into.{Out, done, stop, M, after, sum, lexer_at, look_at, found, found_at, ahead_of, advanced, bytes_left, is_id_at}
+use Rattle.steps.specs.Into.{Within, within, code_of, Out, done, stop, M, after, sum, lexer_at, look_at, found, found_at, ahead_of, advanced, bytes_left, is_id_at, numbered, token_of, loc_or}
 use Rattle.steps.proofs.PackLaws.{unpacked_packed, loc_back, start_small, end_small}
 use Rattle.steps.proofs.TableLaws.{lay}
 use Rattle.steps.proofs.ForestLaws.{◌⊕◌}
-use Rattle.steps.proofs.Bytes.{Within, within}
 
 -- ---- numbers that do not pass the largest
 
@@ -75,7 +73,7 @@ pub data Ahead (text : List ℕ) (k : ℕ) (l : Range) (x : Lexer) : List Lexeme
   on : {t : Lexeme} {ts : List Lexeme} → First text k l t → ts ≡ tokens text x → Placed x → 0 < x.at → Sound text x → Ahead text k l x (t ∷ ts)
 
 abbrev pub AheadOf : List ℕ → State → List Lexeme → Type 0
-AheadOf text st ts = Ahead text st.kind st.loc (lexer_at (unpacked st.loc.end)) ts
+AheadOf text st ts = Ahead text (code_of st) st.loc (lexer_at (unpacked st.loc.end)) ts
 
 -- what an advance keeps
 pub record Moved (st : State) (r : State) : Type 0 where
@@ -103,8 +101,8 @@ module _ (text : List ℕ) (short : length text ≤ 65536) where
   look e h = rw (le-ltb 65536 (length text) short, le-ltb 65536 (lexer_at e).at h.below, le-ltb (lexer_at e).at (lexer_at e).line h.lines)
 
   ahead_by : (r : Next) (st : State) → let x = lexer_at (unpacked st.loc.end) in Placed x → Sound text x → L.next text x ≡ r
-      → AheadOf text (ahead_of (found st.loc.end r) st) (tokens text x)
-  unfolding ahead_of found kind place lexeme_of
+      → AheadOf text (ahead_of (found r) st) (tokens text x)
+  unfolding ahead_of found kind place lexeme_of numbered token_of loc_or
   ahead_by (N.On p s) st h q e =
       let x = lexer_at (unpacked st.loc.end) in
       let i = next_inside text x s p e in
@@ -113,7 +111,7 @@ module _ (text : List ℕ) (short : length text ≤ 65536) where
       let b = end_small text x s p h short e in
       let y : lexer_at (unpacked (packed p.loc.end)) ≡ s =
       ap lexer_at (unpacked_packed p.loc.end b ∙ next_ends text x s p e) ∙ lexer_span s z.line_begun in
-      rw (tokens_on text x s p e, code_some p.token, y)
+      rw (tokens_on text x s p e, y)
       (on (record { coded = refl; placed = loc_back p.loc a b; spelled = spelled_at text p (omega (arith, i.1)) (omega (arith, i.2, i.3)) })
       refl z (omega (arith, i.1, i.2)) (sym (unrecognized_on text x s p e) ∙ q))
   ahead_by N.End st h q e = rw (tokens_end text (lexer_at (unpacked st.loc.end)) e) (over refl q)
@@ -129,7 +127,7 @@ module _ (text : List ℕ) (short : length text ≤ 65536) where
 pub few_left : {text : List ℕ} {ts : List Lexeme} (st : State) → length text ≤ 65536 → AheadOf text st ts → bytes_left text st < 65537
 unfolding bytes_left lexer_at
 few_left st short (over e q) = rw e (omega arith)
-few_left {text} st short (on h e x a q) = left (eqb st.kind 255)
+few_left {text} st short (on h e x a q) = left (eqb (code_of st) 255)
   where
     left : (b : Bool) → cond b 0 (suc (length text - (unpacked st.loc.end).index)) < 65537
     left true = omega arith
@@ -208,7 +206,7 @@ number (raise e (Some t)) = e
 
 pub data Meant {A : Type 0} (Q : A → State → List ℕ → List ℕ → St → Type 0) : Out → Res A → Type 0 where
   went : {a : A} {st : State} {t u : List ℕ} {s : St} → Q a st t u s → Meant Q (done st t u) (ok a s)
-  halted : {r : Raised} {l : Range} → Meant Q (stop (number r) l) (no r (unpacked_loc l))
+  halted : {r : Raised} {l : Range} {t u : List ℕ} → Meant Q (stop (number r) l t u) (no r (unpacked_loc l))
 
 module _ {A B : Type 0} {Q : A → State → List ℕ → List ℕ → St → Type 0} {R : B → State → List ℕ → List ℕ → St → Type 0} where
   pub bind_m : {o : Out} {r : Res A} {k : M} {f : A → P B} → Meant Q o r
@@ -271,7 +269,7 @@ module _ {A : Type 0} {Q : A → State → List ℕ → List ℕ → St → Type
   pub grouped : (o : Out) (k j : M) {r : Res A} → Meant Q (after o (λ st t u. after (k st t u) j)) r → Meant Q (after (after o k) j) r
   unfolding after
   grouped (done st t u) k j h = h
-  grouped (stop e l) k j h = h
+  grouped (stop e l t u) k j h = h
 
 -- a reader of the code means a reader of the definitions that gives the forest G, for nodes of the parent p in a table whose first record is node b
 abbrev pub Means : {A : Type 0} → List ℕ → ℕ → ℕ → ℕ → (A → Forest) → M → P A → Type 0

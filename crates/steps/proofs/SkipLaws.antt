@@ -41,6 +41,7 @@ use Rattle.parser.specs.Steps.{
 }
 use Rattle.steps.specs.Packed.{unpacked_loc}
 use Rattle.steps.specs.Into.{
+  code_of,
   put,
   advanced,
   is_separator,
@@ -97,8 +98,8 @@ waits_first f k = by_comment k (λ e. rw (apart k e, e)) (λ e. rw e)
 -- ---- tokens that are passed over
 
 module _ (text : List ℕ) (short : length text ≤ 65536) (i b p : ℕ) (fr : Frame) (f : Forest) (t : List ℕ) where
-  passing : (w : Bool) (ks : List Token) → Tests (λ n. passes n w) ks → (st : State) (tok : Lexeme) → First text st.kind st.loc tok
-      → passes st.kind w ≡ among (kind tok) ks
+  passing : (w : Bool) (ks : List Token) → Tests (λ n. passes n w) ks → (st : State) (tok : Lexeme) → First text (code_of st) st.loc tok
+      → passes (code_of st) w ≡ among (kind tok) ks
   passing w ks test st tok h = ap (λ (n : ℕ). passes n w) h.coded ∙ test.agrees (kind tok)
 
   module _ (w : Bool) (F : Token → Fate) (ks : List Token) (test : Tests (λ n. passes n w) ks) (fates : (k : Token) → F k ≡ cond (among k ks) over S.stop)
@@ -116,7 +117,7 @@ module _ (text : List ℕ) (short : length text ≤ 65536) (i b p : ℕ) (fr : F
     skips st l [] h = go h.ahead
       where
         go : AheadOf text st [] → At text i b p fr f (passed text w st) t u (pos l c [])
-        go (ended e q) = let z : passes st.kind w ≡ false = ap (λ (n : ℕ). passes n w) e ∙ test.fails in rw (passed_is text w st, z) h
+        go (ended e q) = let z : passes (code_of st) w ≡ false = ap (λ (n : ℕ). passes n w) e ∙ test.fails in rw (passed_is text w st, z) h
     skips st l (tok ∷ ts) h = skip_on st l tok ts h (λ g. skips (advanced text st) (place tok) ts g) (among (kind tok) ks) refl
 
   -- ---- comments that wait
@@ -133,7 +134,7 @@ module _ (text : List ℕ) (short : length text ≤ 65536) (i b p : ℕ) (fr : F
   owned_more n (x ∷ c) tok = ap (λ (l : List (List ℕ)). comment_row n x ∷ l) (owned_more n c tok)
 
   -- the record that the code writes for the comment ahead
-  waiting_row : (st : State) (tok : Lexeme) → First text st.kind st.loc tok → row (cond (eqb st.kind 48) 32 33) 0 0 (unpacked_loc st.loc) ≡ comment_row 0 tok
+  waiting_row : (st : State) (tok : Lexeme) → First text (code_of st) st.loc tok → row (cond (eqb (code_of st) 48) 32 33) 0 0 (unpacked_loc st.loc) ≡ comment_row 0 tok
   unfolding comment_row kind place is code
   waiting_row st (lexeme k w l) h = rw (h.coded, h.placed)
 
@@ -170,10 +171,10 @@ module _ (text : List ℕ) (short : length text ≤ 65536) (i b p : ℕ) (fr : F
         → Meant (λ (a : Unit {0}). At text i b p fr f) (skip_comments_in text w st t u) (ok tt (pass F l c ts))
 
     -- the code's tests of the token ahead
-    commented : (st : State) (tok : Lexeme) → First text st.kind st.loc tok → is_comment st.kind ≡ among (kind tok) comment_kinds
+    commented : (st : State) (tok : Lexeme) → First text (code_of st) st.loc tok → is_comment (code_of st) ≡ among (kind tok) comment_kinds
     commented st tok h = ap is_comment h.coded ∙ comment_test.agrees (kind tok)
 
-    separated : (st : State) (tok : Lexeme) → First text st.kind st.loc tok → is_separator st.kind ≡ among (kind tok) separators
+    separated : (st : State) (tok : Lexeme) → First text (code_of st) st.loc tok → is_separator (code_of st) ≡ among (kind tok) separators
     separated st tok h = ap is_separator h.coded ∙ separator_test.agrees (kind tok)
 
     wait_separator : (st : State) (u : List ℕ) (l : LOC) (c : List Lexeme) (tok : Lexeme) (ts : List Lexeme) → Waits ts
@@ -204,11 +205,11 @@ module _ (text : List ℕ) (short : length text ≤ 65536) (i b p : ℕ) (fr : F
     none_waits : (v : Bool) (st : State) (u : List ℕ) (l : LOC) (c : List Lexeme) → At text i b p fr f st t u (pos l c []) → AheadOf text st []
         → Meant (λ (a : Unit {0}). At text i b p fr f) (skip_comments_in text v st t u) (ok tt (pos l c []))
     none_waits true st u l c h (ended e q) =
-        let y : is_comment st.kind ≡ false = ap is_comment e ∙ comment_test.fails in
-        let z : is_separator st.kind ≡ false = ap is_separator e ∙ separator_test.fails in
+        let y : is_comment (code_of st) ≡ false = ap is_comment e ∙ comment_test.fails in
+        let z : is_separator (code_of st) ≡ false = ap is_separator e ∙ separator_test.fails in
         rw (comments_is text true st t u, y, z) (went h)
     none_waits false st u l c h (ended e q) =
-        let y : is_comment st.kind ≡ false = ap is_comment e ∙ comment_test.fails in rw (comments_is text false st t u, y) (went h)
+        let y : is_comment (code_of st) ≡ false = ap is_comment e ∙ comment_test.fails in rw (comments_is text false st t u, y) (went h)
 
     all_wait : (ts : List Lexeme) → Waits ts
     unfolding Waits pass

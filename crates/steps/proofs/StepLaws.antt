@@ -22,7 +22,7 @@ use Rattle.steps.specs.declared.packed.Range.{Range}
 use Rattle.steps.specs.declared.state.State.{State}
 use Rattle.parser.specs.Steps.{kind, place, St, pos, P, bind, peek, when, fail, refuse, next, want, start, here, taken}
 use Rattle.steps.specs.Packed.{unpacked, unpacked_loc}
-use Rattle.steps.specs.Into.{Out, done, refused, start_at, advanced, take_in, expect_in}
+use Rattle.steps.specs.Into.{code_of, Out, done, refused, start_at, advanced, take_in, expect_in}
 use Rattle.parser.proofs.KindLaws.{Tests, code_some, one_test}
 use Rattle.steps.proofs.Seen.{
   First,
@@ -72,27 +72,27 @@ tested {g = g} (pos l c (t ∷ ts)) h (on a e x z q) = ap g a.coded ∙ h.agrees
 pub record Took (text : List ℕ) (i b p : ℕ) (fr : Frame) (f : Forest) (before : State) (tok : Lexeme) (st : State) (t u : List ℕ) (s : St) : Type 0 where
   pub at : At text i b p fr f st t u s
   pub there : last_of s ≡ place tok
-  pub first : First text before.kind before.loc tok
+  pub first : First text (code_of before) before.loc tok
 
 -- and it is of one of these kinds
 pub record Wanted (ks : List Token) (text : List ℕ) (i b p : ℕ) (fr : Frame) (f : Forest) (before : State) (tok : Lexeme) (st : State) (t u : List ℕ) (s : St) : Type 0 where
   pub at : At text i b p fr f st t u s
   pub there : last_of s ≡ place tok
-  pub first : First text before.kind before.loc tok
+  pub first : First text (code_of before) before.loc tok
   pub kinds : among (kind tok) ks ≡ true
 
 pub refuse_m : {A : Type 0} {Q : A → State → List ℕ → List ℕ → St → Type 0} {text : List ℕ} {i b p : ℕ} {fr : Frame} {f : Forest} {st : State} {t u : List ℕ} (s : St)
-    (e : ℕ) → At text i b p fr f st t u s → Meant Q (refused e st) (fail {A = A} e s)
+    (e : ℕ) → At text i b p fr f st t u s → Meant Q (refused e st t u) (fail {A = A} e s)
 unfolding refused fail
 refuse_m (pos l c []) e h = rw (none_ahead h.ahead, ← h.last) halted
 refuse_m (pos l c (t ∷ ts)) e h = rw (some_ahead h.ahead, ← (first_ahead h.ahead).placed) halted
 
 -- refuse at the token that was ahead of a state
-pub refuse_at_m : {A : Type 0} {Q : A → State → List ℕ → List ℕ → St → Type 0} {text : List ℕ} (e : ℕ) (st : State) (tok : Lexeme) (s : St)
-    → First text st.kind st.loc tok → Meant Q (refused e st) (refuse {A = A} e tok s)
+pub refuse_at_m : {A : Type 0} {Q : A → State → List ℕ → List ℕ → St → Type 0} {text : List ℕ} (e : ℕ) (st : State) (tok : Lexeme) (s : St) (t u : List ℕ)
+    → First text (code_of st) st.loc tok → Meant Q (refused e st t u) (refuse {A = A} e tok s)
 unfolding refused refuse
-refuse_at_m e st tok s h =
-    let z : eqb st.kind 255 ≡ false = ap (λ (n : ℕ). eqb n 255) h.coded ∙ code_some (kind tok) in
+refuse_at_m e st tok s t u h =
+    let z : eqb (code_of st) 255 ≡ false = ap (λ (n : ℕ). eqb n 255) h.coded ∙ code_some (kind tok) in
     rw (z, ← h.placed) halted
 
 module _ (text : List ℕ) (short : length text ≤ 65536) {i b p : ℕ} {fr : Frame} {f : Forest} {st : State} {t u : List ℕ} where
@@ -138,17 +138,17 @@ module _ (text : List ℕ) (short : length text ≤ 65536) {i b p : ℕ} {fr : F
 
   pub when_m : {A : Type 0} {Q : A → State → List ℕ → List ℕ → St → Type 0} {o v : Out} {g : ℕ → Bool} {ks : List Token} (q r : P A) (s : St) → Tests g ks
       → At text i b p fr f st t u s
-      → (peek ks s ≡ true → Meant Q o (q s)) → (peek ks s ≡ false → Meant Q v (r s)) → Meant Q (cond (g st.kind) o v) (when ks q r s)
+      → (peek ks s ≡ true → Meant Q o (q s)) → (peek ks s ≡ false → Meant Q v (r s)) → Meant Q (cond (g (code_of st)) o v) (when ks q r s)
   unfolding when
   when_m {ks = ks} q r s h a x y = cond_m q r s _ (peek ks s) (tested s h a.ahead) x y
 
   pub one_m : {A : Type 0} {Q : A → State → List ℕ → List ℕ → St → Type 0} {o v : Out} (j : Token) (q r : P A) (s : St) → At text i b p fr f st t u s
       → (peek (j ∷ []) s ≡ true → Meant Q o (q s)) → (peek (j ∷ []) s ≡ false → Meant Q v (r s))
-      → Meant Q (cond (eqb st.kind (code j)) o v) (when (j ∷ []) q r s)
+      → Meant Q (cond (eqb (code_of st) (code j)) o v) (when (j ∷ []) q r s)
   one_m j q r s a x y = when_m {g = λ n. eqb n (code j)} q r s (one_test j) a x y
 
   want_m : {g : ℕ → Bool} {ks : List Token} (s : St) (e : ℕ) → Tests g ks → At text i b p fr f st t u s
-      → Meant (Wanted ks text (suc (suc i)) b p fr f st) (cond (g st.kind) (take_in text st t u) (refused e st)) (want ks e s)
+      → Meant (Wanted ks text (suc (suc i)) b p fr f st) (cond (g (code_of st)) (take_in text st t u) (refused e st t u)) (want ks e s)
   unfolding want
   want_m {g = g} {ks = ks} s e h a = when_m {g = g} next (fail e) s h a (λ x. known_m ks s x a) (λ x. refuse_m s e a)
 

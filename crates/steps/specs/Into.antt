@@ -1,11 +1,12 @@
 -- What the code's steps do to the state and to both tables: parser/specs/Steps, with records written as they are read. Contracts of this crate and of those
 -- above it cite it, and reader/proofs/Meant shows that it means the definitions; nothing else has to believe it.
-use Rattle.std.specs.Prelude.{◌≡◌, Bool, false, cond, ◌||◌, List, ◌++◌, ℕ, zero, suc, ◌+◌, ◌*◌, ◌-◌, ◌≤◌, eqb, ltb, leb, length, take, drop, set, replicate}
+use Rattle.std.specs.Prelude.{Bool, false, cond, ◌||◌, List, ◌++◌, ℕ, zero, suc, ◌+◌, ◌*◌, ◌-◌, ◌≤◌, eqb, ltb, leb, length, take, drop, set, replicate}
 use Rattle.token.specs.Kind as T
 use Rattle.lexer.specs.Error as E
 use Rattle.lexer.specs.Limit.{limit}
 use Rattle.ast.specs.Column as C
 use Rattle.ast.specs.Kind as K
+use Rattle.token.specs.declared.Token.{Token}
 use Rattle.token.specs.Code.{code}
 use Rattle.lexer.specs.declared.location.Lexer.{Lexer}
 use Rattle.lexer.specs.declared.location.Span.{Span}
@@ -17,62 +18,46 @@ use Rattle.ast.specs.Largest.{largest, bump}
 use Rattle.ast.specs.Records.{comment_width, node_width, row, node_row, room}
 use Rattle.parser.specs.Definitions.{is_id}
 use Rattle.steps.specs.declared.packed.Range.{Range}
-use Rattle.steps.specs.declared.Found.{Found}
+use Rattle.steps.specs.declared.state.Ahead.{Ahead}
 use Rattle.steps.specs.declared.state.State.{State}
 use Rattle.steps.specs.declared.state.Raised.{Raised}
-use Rattle.std.specs.Prelude.{Ok, Err}
+use Rattle.std.specs.Prelude.{Ok, Err, Option, Some, None}
 use Rattle.std.specs.declared.result.Result.{Result}
 use Rattle.lexer.specs.Refusal.{number_of}
-use Rattle.steps.specs.Packed.{packed, unpacked, unpacked_loc}
+use Rattle.steps.specs.Packed.{unpacked, packed_loc, unpacked_loc}
 
--- what every reader is lent: a text that passed 20
-pub record Lent (text : List ℕ) : Type 0 where
-  pub short : length text ≤ limit
-
--- the kind where no token is left
+-- the number of a token, or of none
 abbrev pub no_token : ℕ
 no_token = 255
 
--- the state and both tables afterwards; or document 01's number and a place
+unfoldable pub numbered : Option Token → ℕ
+numbered None = no_token
+numbered (Some k) = code k
+
+-- the number of the token ahead
+abbrev pub code_of : State → ℕ
+code_of st = numbered st.token
+
+-- the state and both tables afterwards; or document 01's number and a place, and both tables
 pub data Out : Type 0 where
   done : State → List ℕ → List ℕ → Out
-  stop : ℕ → Range → Out
+  stop : ℕ → Range → List ℕ → List ℕ → Out
 
 abbrev pub M : Type 0
 M = State → List ℕ → List ℕ → Out
 
 unfoldable pub after : Out → M → Out
 after (done st t u) k = k st t u
-after (stop n l) k = stop n l
+after (stop n l t u) k = stop n l t u
 
 infixr 20 ◌⨟◌
 abbrev pub ◌⨟◌ : M → M → M
 ◌⨟◌ m k = λ st t u. after (m st t u) k
 
--- what the code's answer shows
-abbrev pub Parsed : Type 0
-Parsed = Result State Raised
-
-unfoldable pub shows : Parsed → List ℕ → List ℕ → Out
+-- what an answer that has the state shows
+unfoldable pub shows : Result State Raised → List ℕ → List ℕ → Out
 shows (Ok st) t u = done st t u
-shows (Err r) t u = stop (number_of r.kind) r.loc
-
--- the contracts of a reader that is lent both tables, the node table, none
-abbrev pub Reads : M → State → Parsed → List ℕ → List ℕ → List ℕ → List ℕ → Type 0
-Reads m st r t t' u u' = shows r t' u' ≡ m st t u
-
-abbrev pub Quiet : M → State → Parsed → List ℕ → List ℕ → Type 0
-Quiet m st r t t' = (u : List ℕ) → shows r t' u ≡ m st t u
-
-abbrev pub Still : M → State → Parsed → Type 0
-Still m st r = (t u : List ℕ) → shows r t u ≡ m st t u
-
--- of a step that returns the state, and is lent the comment table, or the node table
-abbrev pub Keeps : M → State → State → List ℕ → List ℕ → Type 0
-Keeps m st r u u' = (t : List ℕ) → done r t u' ≡ m st t u
-
-abbrev pub Puts : M → State → State → List ℕ → List ℕ → Type 0
-Puts m st r t t' = (u : List ℕ) → done r t' u ≡ m st t u
+shows (Err r) t u = stop (number_of r.kind) r.loc t u
 
 -- ---- records
 
@@ -105,7 +90,10 @@ unfoldable pub place_of : ℕ → ℕ → ℕ
 place_of b n = n - b
 
 unfoldable pub opened : State → State
-opened st = record { kind = st.kind; loc = st.loc; last = st.last; next = bump st.next; owned = st.owned; waiting = st.waiting }
+opened st = record { token = st.token; loc = st.loc; last = st.last; next = bump st.next; owned = st.owned; waiting = st.waiting }
+
+unfoldable pub open_in : M
+open_in st t u = done (opened st) t u
 
 -- the last token taken, as a node
 unfoldable pub leaf_in : ℕ → ℕ → ℕ → M
@@ -131,19 +119,25 @@ look_at t e =
     cond (ltb limit (length t)) N.End (cond (ltb limit s.at) N.End (cond (ltb s.at s.line) N.End (L.next t s)))
 
 -- the same in 64 bits
-unfoldable pub found : ℕ → Next → Found
-found e (N.On p s) = record { start = packed p.loc.start; end = packed p.loc.end; kind = code p.token }
-found e N.End = record { start = e; end = e; kind = no_token }
-found e (N.Unrecognized p) = record { start = e; end = e; kind = no_token }
+unfoldable pub found : Next → Option Ahead
+found (N.On p s) = Some (record { token = p.token; loc = packed_loc p.loc })
+found N.End = None
+found (N.Unrecognized p) = None
 
-unfoldable pub found_at : List ℕ → ℕ → Found
-found_at t e = found e (look_at t (unpacked e))
+unfoldable pub found_at : List ℕ → ℕ → Option Ahead
+found_at t e = found (look_at t (unpacked e))
+
+unfoldable pub token_of : Option Ahead → Option Token
+token_of None = None
+token_of (Some a) = Some a.token
+
+unfoldable pub loc_or : Option Ahead → Range → Range
+loc_or None l = l
+loc_or (Some a) l = a.loc
 
 -- the token that was ahead is taken; where none is found its place stays
-unfoldable pub ahead_of : Found → State → State
-ahead_of f st =
-    let l = cond (eqb f.kind no_token) st.loc (record { start = f.start; end = f.end }) in
-    record { kind = f.kind; loc = l; last = st.loc; next = st.next; owned = st.owned; waiting = st.waiting }
+unfoldable pub ahead_of : Option Ahead → State → State
+ahead_of f st = record { token = token_of f; loc = loc_or f st.loc; last = st.loc; next = st.next; owned = st.owned; waiting = st.waiting }
 
 unfoldable pub advanced : List ℕ → State → State
 advanced text st = ahead_of (found_at text st.loc.end) st
@@ -151,25 +145,37 @@ advanced text st = ahead_of (found_at text st.loc.end) st
 unfoldable pub advance_in : List ℕ → M
 advance_in text st t u = done (advanced text st) t u
 
-unfoldable pub refused : ℕ → State → Out
-refused e st = cond (eqb st.kind no_token) (stop E.UnexpectedEOF st.last) (stop e st.loc)
+unfoldable pub refused : ℕ → M
+refused e st t u = cond (eqb (code_of st) no_token) (stop E.UnexpectedEOF st.last t u) (stop e st.loc t u)
 
 unfoldable pub refuse_in : ℕ → M
-refuse_in e st t u = refused e st
+refuse_in e st t u = refused e st t u
 
 unfoldable pub start_at : State → ℕ
-start_at st = cond (eqb st.kind no_token) st.last.start st.loc.start
+start_at st = cond (eqb (code_of st) no_token) st.last.start st.loc.start
 
 unfoldable pub take_in : List ℕ → M
-take_in text st t u = cond (eqb st.kind no_token) (refused E.UnexpectedEOF st) (done (advanced text st) t u)
+take_in text st t u = cond (eqb (code_of st) no_token) (refused E.UnexpectedEOF st t u) (done (advanced text st) t u)
 
 unfoldable pub expect_in : List ℕ → ℕ → ℕ → M
-expect_in text k e st t u = cond (eqb st.kind k) (take_in text st t u) (refused e st)
+expect_in text k e st t u = cond (eqb (code_of st) k) (take_in text st t u) (refused e st t u)
 
 -- the bytes behind the lexer, and one for the token ahead; none where no token is ahead. What takes a token makes them fall, so a loop has at most
 -- one turn more than bytes are left, and each below is its first turn and then itself (passed_is and comments_is in proofs/Bytes, loop_is in LoopForms)
 unfoldable pub bytes_left : List ℕ → State → ℕ
-bytes_left text st = cond (eqb st.kind no_token) 0 (suc (length text - (unpacked st.loc.end).index))
+bytes_left text st = cond (eqb (code_of st) no_token) 0 (suc (length text - (unpacked st.loc.end).index))
+
+-- a refusal, or a state with at least x bytes fewer than b
+pub data Within (text : List ℕ) (x b : ℕ) : Out → Type 0 where
+  within : {st : State} {t u : List ℕ} → x + bytes_left text st ≤ b → Within text x b (done st t u)
+  stopped : {e : ℕ} {l : Range} {t u : List ℕ} → Within text x b (stop e l t u)
+
+-- of what reads: each time it answers it leaves fewer bytes; or no more
+abbrev pub Falls : List ℕ → M → Type 0
+Falls text m = (st : State) (t u : List ℕ) → Within text 1 (bytes_left text st) (m st t u)
+
+abbrev pub Rests : List ℕ → M → Type 0
+Rests text m = (st : State) (t u : List ℕ) → Within text 0 (bytes_left text st) (m st t u)
 
 unfoldable pub is_separator : ℕ → Bool
 is_separator k = eqb k T.Comma || eqb k T.Semicolon
@@ -182,7 +188,7 @@ passes k s = cond s (is_separator k) (is_comment k)
 
 unfoldable pub skip_from : List ℕ → Bool → ℕ → State → State
 skip_from text s zero st = st
-skip_from text s (suc n) st = cond (passes st.kind s) (skip_from text s n (advanced text st)) st
+skip_from text s (suc n) st = cond (passes (code_of st) s) (skip_from text s n (advanced text st)) st
 
 -- behind all that a skip passes over
 unfoldable pub passed : List ℕ → Bool → State → State
@@ -193,10 +199,10 @@ skip_in text s st t u = done (passed text s st) t u
 
 -- the comment ahead waits
 unfoldable pub waits : State → State
-waits st = record { kind = st.kind; loc = st.loc; last = st.last; next = st.next; owned = st.owned; waiting = bump st.waiting }
+waits st = record { token = st.token; loc = st.loc; last = st.last; next = st.next; owned = st.owned; waiting = bump st.waiting }
 
 unfoldable pub put_waiting : State → List ℕ → List ℕ
-put_waiting st u = put comment_width (st.owned + st.waiting) (row (cond (eqb st.kind T.LineComment) K.LineComment K.BlockComment) 0 0 (unpacked_loc st.loc)) u
+put_waiting st u = put comment_width (st.owned + st.waiting) (row (cond (eqb (code_of st) T.LineComment) K.LineComment K.BlockComment) 0 0 (unpacked_loc st.loc)) u
 
 unfoldable pub wait_in : M
 wait_in st t u = done (waits st) t (put_waiting st u)
@@ -204,8 +210,8 @@ wait_in st t u = done (waits st) t (put_waiting st u)
 unfoldable pub skip_comments_from : List ℕ → Bool → ℕ → M
 skip_comments_from text s zero st t u = done st t u
 skip_comments_from text s (suc n) st t u =
-    cond (is_comment st.kind) (skip_comments_from text s n (advanced text (waits st)) t (put_waiting st u))
-    (cond s (cond (is_separator st.kind) (skip_comments_from text s n (advanced text st) t u) (done st t u)) (done st t u))
+    cond (is_comment (code_of st)) (skip_comments_from text s n (advanced text (waits st)) t (put_waiting st u))
+    (cond s (cond (is_separator (code_of st)) (skip_comments_from text s n (advanced text st) t u) (done st t u)) (done st t u))
 
 unfoldable pub skip_comments_in : List ℕ → Bool → M
 skip_comments_in text s st = skip_comments_from text s (suc (bytes_left text st)) st
@@ -216,10 +222,18 @@ owners i zero p u = u
 owners i (suc n) p u = owners (i + 1) n p (put_owner i p u)
 
 unfoldable pub owns : State → State
-owns st = record { kind = st.kind; loc = st.loc; last = st.last; next = st.next; owned = sum st.owned st.waiting; waiting = 0 }
+owns st = record { token = st.token; loc = st.loc; last = st.last; next = st.next; owned = sum st.owned st.waiting; waiting = 0 }
 
 unfoldable pub own_in : ℕ → M
 own_in p st t u = done (owns st) t (owners st.owned st.waiting p u)
+
+-- a node begins: the comments that wait are its own
+unfoldable pub begin_node_in : M
+begin_node_in st t u = after (open_in st t u) (own_in st.next)
+
+-- a node of a kind, from a place on: `inside` reads what stands below it
+unfoldable pub enclosed_in : ℕ → ℕ → ℕ → ℕ → (ℕ → M) → M
+enclosed_in k s b p inside st t u = after (open_in st t u) (inside st.next ⨟ node_in st.next k 0 s b p)
 
 -- members until a state that closes
 unfoldable pub turns_in : (State → Bool) → M → M → M → ℕ → M
@@ -231,7 +245,7 @@ unfoldable pub loop_in : List ℕ → (State → Bool) → M → M → M → M
 loop_in text closes skips shut member st = turns_in closes skips shut member (suc (bytes_left text st)) st
 
 unfoldable pub closes_at : ℕ → State → Bool
-closes_at k st = eqb st.kind k
+closes_at k st = eqb (code_of st) k
 
 -- ---- ids
 

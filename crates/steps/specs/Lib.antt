@@ -1,2 +1,3 @@
 pub mod Packed
 pub mod Into
+pub mod Reads

@@ -1,8 +1,8 @@
 // Places in 64 bits each: the readers hand the state on by value, and so it stays small.
 ghost use Rattle.std.specs.Prelude.{◌≡◌};
-ghost use Rattle.steps.specs.Packed.{Small, packed, unpacked};
+ghost use Rattle.steps.specs.Packed.{Small, packed, packed_loc, unpacked};
 
-use lexer::location::Span;
+use lexer::location::{LOC, Span};
 
 // Offset, line and column are below it in any text that is read.
 const UNIT: u64 = 1048576;
@@ -20,6 +20,17 @@ pub fn pack(span: Span) -> u64
     ensures { result ≡ packed span }
 {
     span.index as u64 + span.line as u64 * UNIT + span.column as u64 * (UNIT * UNIT)
+}
+
+// Both ends of a range.
+pub fn pack_loc(loc: LOC) -> Range
+    requires { Small loc.start × Small loc.end }
+    ensures { result ≡ packed_loc loc }
+{
+    Range {
+        start: pack(loc.start),
+        end: pack(loc.end),
+    }
 }
 
 // The offset, the line and the column of a place: any 64 bits have them.

@@ -1,11 +1,20 @@
-// The parser by value, rico's Parser without its tree: its steps over tokens (parser/token.rs) and over records.
-ghost use Rattle.std.specs.Prelude.{◌≡◌};
-ghost use Rattle.lexer.specs.Refusal.{number_of};
-ghost use Rattle.steps.specs.Into.{Keeps, Lent, Puts, Still, advanced, ahead_of, refuse_in, start_at, take_in, expect_in, passed, wait_in, skip_comments_in, own_in, opened, leaf_in, place_of, put_node};
+// The parser, rico's Parser without its tree: its steps over tokens (parser/token.rs) and over records.
+ghost use Rattle.std.specs.Prelude.{◌≤◌, length};
+ghost use Rattle.lexer.specs.Limit.{limit};
 
 use crate::packed::Range;
-use crate::{Found, table};
+use crate::table::Row;
+use crate::{packed, table};
+use ast::kind::Kind;
 use lexer::error::ErrorKind;
+use token::Token;
+
+// A token and where it stands.
+#[derive(Clone, Copy, Debug, PartialEq, Eq)]
+pub struct Ahead {
+    pub token: Token,
+    pub loc: Range,
+}
 
 // The lexer stands at the end of the token ahead.
 #[derive(Clone, Copy, Debug, PartialEq, Eq)]
@@ -20,12 +29,22 @@ pub struct State {
     pub owned: u32,
     // how many comments wait for one
     pub waiting: u32,
-    // the kind of the token ahead
-    pub kind: u32,
+    // the token ahead, if one is left
+    pub token: Option<Token>,
 }
 
-// The kind where no token is left.
-pub const NONE: u32 = 255;
+// What the parser is lent, and where it stands.
+#[derive(Drop)]
+pub struct Parser<'a> {
+    pub text: &'a [u8],
+    // the node table, from the record `base` on
+    pub nodes: &'a mut [u32],
+    pub base: u32,
+    pub comments: &'a mut [u32],
+    pub state: State,
+    // the text passed 20
+    pub ghost short: { length text.now ≤ limit },
+}
 
 // A refusal, and the place of the token that it is at.
 #[derive(Clone, Copy, Debug, PartialEq, Eq)]
@@ -34,254 +53,302 @@ pub struct Raised {
     pub loc: Range,
 }
 
-// What a reader leaves: the state behind what it read, or a refusal.
-pub type Parsed = Result<State, Raised>;
+// What a reader answers: nothing, or a refusal.
+pub type Parsed = Result<(), Raised>;
 
-// The node that others are read under.
+// A node that is read: its number, and where it starts.
 #[derive(Clone, Copy, Debug, PartialEq, Eq)]
-pub struct Parent {
-    // the number of the first record in the table that is lent
-    pub base: u32,
-    // its own number
-    pub node: u32,
-}
-
-impl Parent {
-    // Where node `number` stands in that table.
-    #[tactic(auto, unfolding(crate::specs::Into::place_of))]
-    fn place_of(self, number: u32) -> usize
-        ensures { result ≡ place_of self.base number }
-    {
-        number.saturating_sub(self.base) as usize
-    }
+pub struct Node {
+    pub number: u32,
+    pub start: u64,
 }
 
 impl State {
-    // The state with the token that was found ahead, the one ahead taken.
-    pub fn ahead(self, found: Found) -> State
-        ensures { result ≡ ahead_of found self }
+    ghost use Rattle.std.specs.Prelude.{◌≡◌};
+    ghost use Rattle.steps.specs.Into.{start_at};
+
+    // start_pos: where the token ahead starts.
+    pub fn start(&self) -> u64
+        ensures { result ≡ start_at self.now }
     {
-        let last = self.loc;
-        let mut loc = last;
-        if found.kind != NONE {
-            loc = Range {
-                start: found.start,
-                end: found.end,
-            };
+        match self.token {
+            Some(_) => self.loc.start,
+            None => self.last.start,
         }
-        State {
-            kind: found.kind,
-            loc,
-            last,
-            ..self
-        }
+    }
+}
+
+impl Parser<'_> {
+    ghost use Rattle.std.specs.Prelude.{◌≡◌, ◌≤◌, List, ℕ, true, eqb};
+    ghost use Rattle.token.specs.Code.{code};
+    ghost use Rattle.lexer.specs.Refusal.{number_of as error_number};
+    ghost use Rattle.ast.specs.KindNumber.{number_of};
+    ghost use Rattle.steps.specs.Into.{M, advance_in, begin_node_in, closes_at, code_of, enclosed_in, expect_in, Falls, is_comment, is_separator, leaf_in, loop_in, node_in, numbered, open_in, own_in, passes, place_of, refused, Rests, skip_comments_in, skip_in, stop, take_in, wait_in};
+    ghost use Rattle.steps.specs.Reads.{Source, Reads, Does, left_of, Shortens};
+
+    // Whether the token ahead is of this kind.
+    pub fn is(&self, token: Token) -> bool
+        ensures { result ≡ eqb (code_of self.now.state) (code token) }
+    {
+        self.meets(Some(token))
+    }
+
+    // Whether it is this one, or none.
+    fn meets(&self, token: Option<Token>) -> bool
+        ensures { result ≡ eqb (code_of self.now.state) (numbered token) }
+    {
+        self.state.token == token
+    }
+
+    // Whether a separator is ahead; or a comment.
+    pub fn is_separator(&self) -> bool
+        ensures { result ≡ is_separator (code_of self.now.state) }
+    {
+        self.is(Token::Comma) || self.is(Token::Semicolon)
+    }
+
+    pub fn is_comment(&self) -> bool
+        ensures { result ≡ is_comment (code_of self.now.state) }
+    {
+        self.is(Token::LineComment) || self.is(Token::BlockComment)
     }
 
     // advance
-    pub fn advance(self, text: &[u8]) -> State
-        requires { Lent text.now }
-        ensures { result ≡ advanced text.now self }
+    pub fn advance(&mut self)
+        ensures { Does (λ x. advance_in x.text) self.old self.new }
     {
-        let loc = self.loc;
-        let end = loc.end;
-        let found = crate::look(text, end);
-        self.ahead(found)
-    }
-
-    // A refusal at the token ahead; with none left 3 at the last one, which the end rule makes 3 or 1.
-    pub fn refuse(self, kind: ErrorKind) -> Parsed
-        ensures { Still (refuse_in (number_of kind)) self result }
-    {
-        if self.kind == NONE {
-            return Err(Raised {
-                kind: ErrorKind::UnexpectedEOF,
-                loc: self.last,
-            });
+        let found = crate::look(self.text, self.state.loc.end);
+        self.state.last = self.state.loc;
+        match found {
+            Some(ahead) => {
+                self.state.token = Some(ahead.token);
+                self.state.loc = ahead.loc;
+            }
+            None => self.state.token = None,
         }
-        Err(Raised {
-            kind,
-            loc: self.loc,
-        })
     }
 
-    // start_pos: where the token ahead starts.
-    pub fn start(self) -> u64
-        ensures { result ≡ start_at self }
+    // error: a refusal at the token ahead; with none left 3 at the last one, which the end rule makes 3 or 1.
+    pub fn error(&self, kind: ErrorKind) -> Raised
+        ensures { (t u : List ℕ) → stop (error_number result.kind) result.loc t u ≡ refused (error_number kind) self.now.state t u }
     {
-        let loc = self.loc;
-        let last = self.last;
-        if self.kind == NONE {
-            last.start
-        } else {
-            loc.start
+        match self.state.token {
+            Some(_) => Raised {
+                kind,
+                loc: self.state.loc,
+            },
+            None => Raised {
+                kind: ErrorKind::UnexpectedEOF,
+                loc: self.state.last,
+            },
         }
     }
 
     // The token ahead, whatever it is.
-    pub fn take(self, text: &[u8]) -> Parsed
-        requires { Lent text.now }
-        ensures { Still (take_in text.now) self result }
+    pub fn take(&mut self) -> Parsed
+        ensures { Reads (λ x. take_in x.text) self.old self.new result }
     {
-        if self.kind == NONE {
-            return self.refuse(ErrorKind::UnexpectedEOF);
+        match self.state.token {
+            Some(_) => {
+                self.advance();
+                Ok(())
+            }
+            None => Err(self.error(ErrorKind::UnexpectedEOF)),
         }
-        Ok(self.advance(text))
     }
 
     // expect_token, consume: a token of one kind, or a refusal.
-    pub fn expect(self, text: &[u8], kind: u32, error: ErrorKind) -> Parsed
-        requires { Lent text.now }
-        ensures { Still (expect_in text.now kind (number_of error)) self result }
+    pub fn expect(&mut self, token: Token, kind: ErrorKind) -> Parsed
+        ensures { Reads (λ x. expect_in x.text (code token) (error_number kind)) self.old self.new result }
     {
-        if self.kind == kind {
-            return self.take(text);
+        if !self.is(token) {
+            return Err(self.error(kind));
         }
-        self.refuse(error)
+        self.advance();
+        Ok(())
     }
 
-    // skip_separator (`separators`), skip_comments_discard (else). The usual case, nothing to skip, is apart from the loop, so that it copies no state.
-    pub fn skip(self, text: &[u8], separators: bool) -> State
-        requires { Lent text.now }
-        ensures { result ≡ passed text.now separators self }
-    {
-        if crate::passes(self.kind, separators) {
-            return self.skip_all(text, separators);
-        }
-        self
-    }
-
-    // The loop itself, for where there usually is something to skip.
-    pub fn skip_all(self, text: &[u8], separators: bool) -> State
-        requires { Lent text.now }
-        ensures { result ≡ passed text.now separators self }
-    {
-        let mut state = self;
-        while crate::passes(state.kind, separators) {
-            state = state.advance(text);
-        }
-        state
-    }
-
-    // skip_comments, and with `separators` skip_trivia: the comments wait. The usual case is apart from the loop here too.
-    pub fn skip_comments(self, text: &[u8], separators: bool, comments: &mut [u32]) -> State
-        requires { Lent text.now }
-        ensures { Keeps (skip_comments_in text.now separators) self result comments.old comments.new }
+    // Whether a skip passes over the token ahead: a separator (`separators`), a comment (else).
+    fn passes(&self, separators: bool) -> bool
+        ensures { result ≡ passes (code_of self.now.state) separators }
     {
         if separators {
-            return self.skip_all_comments(text, separators, comments);
+            self.is_separator()
+        } else {
+            self.is_comment()
         }
-        if crate::is_comment(self.kind) {
-            return self.skip_all_comments(text, separators, comments);
-        }
-        self
     }
 
-    fn skip_all_comments(self, text: &[u8], separators: bool, comments: &mut [u32]) -> State
-        requires { Lent text.now }
-        ensures { Keeps (skip_comments_in text.now separators) self result comments.old comments.new }
+    // skip_separator (`separators`), skip_comments_discard (else).
+    pub fn skip(&mut self, separators: bool)
+        ensures { Does (λ x. skip_in x.text separators) self.old self.new }
     {
-        let mut state = self;
+        // a step is a token
+        while self.passes(separators) {
+            self.advance();
+        }
+    }
+
+    // skip_comments, and with `separators` skip_trivia: the comments wait.
+    pub fn skip_comments(&mut self, separators: bool)
+        ensures { Does (λ x. skip_comments_in x.text separators) self.old self.new }
+    {
+        // a step is a token
         loop {
-            if crate::is_comment(state.kind) {
-                state = state.wait(comments);
-            } else {
-                if !separators {
-                    return state;
-                }
-                if !crate::is_separator(state.kind) {
-                    return state;
-                }
+            if self.is_comment() {
+                self.wait();
+            } else if !separators || !self.is_separator() {
+                return;
             }
-            state = state.advance(text);
+            self.advance();
         }
     }
 
     // The comment ahead waits: its record stands behind the others, without its owner.
-    fn wait(self, comments: &mut [u32]) -> State
-        ensures { Keeps (wait_in) self result comments.old comments.new }
+    fn wait(&mut self)
+        ensures { Does (λ x. wait_in) self.old self.new }
     {
-        let mut kind = ast::kind::BLOCK_COMMENT;
-        if self.kind == token::kind::LINE_COMMENT {
-            kind = ast::kind::LINE_COMMENT;
-        }
-        let loc = self.loc;
+        let kind = if self.is(Token::LineComment) {
+            Kind::LineComment
+        } else {
+            Kind::BlockComment
+        };
         table::put_comment(
-            comments,
-            self.owned as usize + self.waiting as usize,
+            self.comments,
+            self.state.owned as usize + self.state.waiting as usize,
             kind,
-            loc,
+            self.state.loc,
         );
-        State {
-            waiting: ast::bump(self.waiting),
-            ..self
-        }
+        self.state.waiting = ast::bump(self.state.waiting);
     }
 
     // take_pending_comments: those that wait go to the node with the number `owner`.
-    pub fn own(self, owner: u32, comments: &mut [u32]) -> State
-        ensures { Keeps (own_in owner) self result comments.old comments.new }
+    pub fn own(&mut self, owner: u32)
+        ensures { Does (λ x. own_in owner) self.old self.new }
     {
-        let first = self.owned as usize;
-        for i in 0..self.waiting as usize {
-            table::put_owner(comments, first + i, owner);
+        let first = self.state.owned as usize;
+        for i in 0..self.state.waiting as usize {
+            table::put_owner(self.comments, first + i, owner);
         }
-        State {
-            owned: table::sum(self.owned, self.waiting),
-            waiting: 0,
-            ..self
-        }
+        self.state.owned = table::sum(self.state.owned, self.state.waiting);
+        self.state.waiting = 0;
     }
 
-    // The state with one node more.
-    pub fn open(self) -> State
-        ensures { result ≡ opened self }
+    // One node more.
+    pub fn open(&mut self)
+        ensures { Does (λ x. open_in) self.old self.new }
     {
-        State {
-            next: ast::bump(self.next),
-            ..self
-        }
+        self.state.next = ast::bump(self.state.next);
+    }
+
+    // One node more, which owns the comments that wait.
+    pub fn begin_node(&mut self)
+        ensures { Does (λ x. begin_node_in) self.old self.new }
+    {
+        let owner = self.state.next;
+        self.open();
+        self.own(owner);
+    }
+
+    // Where node `number` stands in the table.
+    fn place_of(&self, number: u32) -> usize
+        ensures { result ≡ place_of self.now.base number }
+    {
+        number.saturating_sub(self.base) as usize
     }
 
     // The last token taken, as a node.
-    pub fn put_leaf(self, rest: &mut [u32], kind: u32, parent: Parent) -> State
-        ensures { Puts (leaf_in kind parent.base parent.node) self result rest.old rest.new }
+    pub fn put_leaf(&mut self, kind: Kind, parent: u32)
+        ensures { Does (λ x. leaf_in (number_of kind) x.base parent) self.old self.new }
     {
-        let loc = self.last;
-        let opened = self.open();
-        table::put_node(
-            rest,
-            parent.place_of(self.next),
-            kind,
-            parent.node,
-            0,
-            loc,
-            opened.next,
-        );
-        opened
+        let leaf = Node {
+            number: self.state.next,
+            start: self.state.last.start,
+        };
+        self.open();
+        self.put_node(leaf, kind, 0, parent);
     }
 
-    // A node from `start` to the end of the last token taken; all its descendants are read.
-    pub fn put_node(
-        self,
-        rest: &mut [u32],
-        number: u32,
-        kind: u32,
-        flags: u32,
-        start: u64,
-        parent: Parent,
-    )
-        ensures { rest.new ≡ put_node number kind flags start parent.base parent.node self rest.old }
+    // A node to the end of the last token taken; all its descendants are read.
+    pub fn put_node(&mut self, node: Node, kind: Kind, flags: u32, parent: u32)
+        ensures { Does (λ x. node_in node.number (number_of kind) flags node.start x.base parent) self.old self.new }
     {
-        let last = self.last;
-        let end = last.end;
-        table::put_node(
-            rest,
-            parent.place_of(number),
+        let index = self.place_of(node.number);
+        let loc = Range {
+            start: node.start,
+            end: self.state.last.end,
+        };
+        let row = Row {
             kind,
-            parent.node,
+            parent,
             flags,
-            Range { start, end },
-            self.next,
-        );
+            loc,
+        };
+        let past = self.state.next;
+        table::put_node(self.nodes, index, row, past);
+    }
+
+    // A node from `start` on: below it stands what `inside` reads, which is given its number.
+    pub fn enclose<F: Fn(&mut Parser, u32) -> Parsed>(
+        &mut self,
+        start: u64,
+        kind: Kind,
+        parent: u32,
+        inside: F,
+    ) -> Parsed
+        requires { F.IsAlwaysCallable inside }
+        ensures { (m : ℕ → Source → M) → ((s : _) (n : ℕ) (r : _) (t : _) → F.post inside s n r t → Reads (m n) s.now t.now r) → Reads (λ x. enclosed_in (number_of kind) start x.base parent (λ n. m n x)) self.old self.new result }
+    {
+        let node = Node {
+            number: self.state.next, // before what it encloses
+            start,
+        };
+        self.open();
+        inside(self, node.number)?;
+        self.put_node(node, kind, 0, parent);
+        Ok(())
+    }
+
+    // Members until one kind of token is ahead (none at the end of the text), and `end` there; `between` passes what may stand before each. The bytes left fall.
+    pub fn parse_until<
+        B: Fn(&mut Parser),
+        E: Fn(&mut Parser) -> Parsed,
+        F: Fn(&mut Parser) -> Parsed,
+    >(&mut self, closer: Option<Token>, between: B, end: E, member: F) -> Parsed
+        requires callable { B.IsAlwaysCallable between × E.IsAlwaysCallable end × F.IsAlwaysCallable member }
+        requires rests { (s : _) (t : _) → B.post between s tt t → left_of t.now ≤ left_of s.now }
+        requires falls { (s : _) (r : _) (t : _) → F.post member s r t → Shortens s.now t.now r }
+        ensures { (b e m : Source → M) → ((x : Source) → Rests x.text (b x)) → ((x : Source) → Falls x.text (m x)) → ((s : _) (t : _) → B.post between s tt t → Does b s.now t.now) → ((s : _) (r : _) (t : _) → E.post end s r t → Reads e s.now t.now r) → ((s : _) (r : _) (t : _) → F.post member s r t → Reads m s.now t.now r) → Reads (λ x. loop_in x.text (closes_at (numbered closer)) (b x) (e x) (m x)) self.old self.new result }
+    {
+        // a step is what `between` and `member` take
+        loop {
+            between(self);
+            if self.meets(closer) {
+                return end(self);
+            }
+            member(self)?;
+        }
+    }
+
+    // The same up to a closing token, and that.
+    pub fn parse_members<B: Fn(&mut Parser), F: Fn(&mut Parser) -> Parsed>(
+        &mut self,
+        closer: Token,
+        between: B,
+        member: F,
+    ) -> Parsed
+        requires callable { B.IsAlwaysCallable between × F.IsAlwaysCallable member }
+        requires rests { (s : _) (t : _) → B.post between s tt t → left_of t.now ≤ left_of s.now }
+        requires falls { (s : _) (r : _) (t : _) → F.post member s r t → Shortens s.now t.now r }
+        ensures { (b m : Source → M) → ((x : Source) → Rests x.text (b x)) → ((x : Source) → Falls x.text (m x)) → ((s : _) (t : _) → B.post between s tt t → Does b s.now t.now) → ((s : _) (r : _) (t : _) → F.post member s r t → Reads m s.now t.now r) → Reads (λ x. loop_in x.text (closes_at (code closer)) (b x) (take_in x.text) (m x)) self.old self.new result }
+    {
+        self.parse_until(
+            Some(closer),
+            between,
+            |p: &mut Parser| -> Parsed
+                ensures { Reads (λ x. take_in x.text) p.entry.now p.exit.now result }
+            { p.take() },
+            member,
+        )
     }
 }

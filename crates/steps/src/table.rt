@@ -1,12 +1,23 @@
 // Records in a lent table.
 ghost use Rattle.std.specs.Prelude.{◌≡◌, ◌+◌, ◌≤◌, length};
 ghost use Rattle.ast.specs.Records.{comment_width, node_width, row, node_row};
-ghost use Rattle.steps.specs.Into.{sum, put_row, put, put_owner, rest_at, wiped};
+ghost use Rattle.ast.specs.KindNumber.{number_of};
+ghost use Rattle.steps.specs.Into.{sum, put_row, put, put_owner, rest_at};
 ghost use Rattle.steps.specs.Packed.{unpacked_loc};
 
 use crate::packed;
 use crate::packed::Range;
 use ast::column;
+use ast::kind::Kind;
+
+// What every record tells: its kind, its parent, its flags, its range.
+#[derive(Clone, Copy, Debug, PartialEq, Eq)]
+pub struct Row {
+    pub kind: Kind,
+    pub parent: u32,
+    pub flags: u32,
+    pub loc: Range,
+}
 
 // The sum of two counts; never past the largest number.
 #[tactic(auto, using(crate::proofs::Cells::sum_least))]
@@ -17,13 +28,14 @@ pub fn sum(a: u32, b: u32) -> u32
 }
 
 // The nine numbers that every record has, from an index on.
-fn put_row(table: &mut [u32], at: usize, kind: u32, parent: u32, flags: u32, loc: Range)
+fn put_row(table: &mut [u32], at: usize, r: Row)
     requires { at + comment_width ≤ length table.old }
-    ensures { table.new ≡ put_row at (row kind parent flags (unpacked_loc loc)) table.old }
+    ensures { table.new ≡ put_row at (row (number_of r.kind) r.parent r.flags (unpacked_loc r.loc)) table.old }
 {
-    table[at] = kind;
-    table[at + 1] = parent;
-    table[at + 2] = flags;
+    let loc = r.loc;
+    table[at] = r.kind.number();
+    table[at + 1] = r.parent;
+    table[at + 2] = r.flags;
     table[at + 3] = packed::index_of(loc.start);
     table[at + 4] = packed::line_of(loc.start);
     table[at + 5] = packed::column_of(loc.start);
@@ -33,32 +45,30 @@ fn put_row(table: &mut [u32], at: usize, kind: u32, parent: u32, flags: u32, loc
 }
 
 // Comment record `index`, without its owner, if the table holds that one.
-pub fn put_comment(comments: &mut [u32], index: usize, kind: u32, loc: Range)
-    ensures { comments.new ≡ put comment_width index (row kind 0 0 (unpacked_loc loc)) comments.old }
+pub fn put_comment(comments: &mut [u32], index: usize, kind: Kind, loc: Range)
+    ensures { comments.new ≡ put comment_width index (row (number_of kind) 0 0 (unpacked_loc loc)) comments.old }
 {
     if comments.len() / ast::COMMENT_WIDTH <= index {
         return;
     }
-    put_row(comments, index * ast::COMMENT_WIDTH, kind, 0, 0, loc);
+    let row = Row {
+        kind,
+        parent: 0,
+        flags: 0,
+        loc,
+    };
+    put_row(comments, index * ast::COMMENT_WIDTH, row);
 }
 
 // Node record `index`, if the table holds that one; `past` is the number just past its last descendant.
-pub fn put_node(
-    nodes: &mut [u32],
-    index: usize,
-    kind: u32,
-    parent: u32,
-    flags: u32,
-    loc: Range,
-    past: u32,
-)
-    ensures { nodes.new ≡ put node_width index (node_row kind parent flags (unpacked_loc loc) past) nodes.old }
+pub fn put_node(nodes: &mut [u32], index: usize, r: Row, past: u32)
+    ensures { nodes.new ≡ put node_width index (node_row (number_of r.kind) r.parent r.flags (unpacked_loc r.loc) past) nodes.old }
 {
     if nodes.len() / ast::NODE_WIDTH <= index {
         return;
     }
     let at = index * ast::NODE_WIDTH;
-    put_row(nodes, at, kind, parent, flags, loc);
+    put_row(nodes, at, r);
     nodes[at + column::PAST] = past;
 }
 
@@ -78,13 +88,4 @@ pub fn rest_at(at: usize, len: usize) -> usize
     ensures { (result ≡ rest_at at len) × (result ≤ len) }
 {
     at.min(len)
-}
-
-// A table's numbers become 0 from an index on.
-#[tactic(auto, using(crate::proofs::Cells::wipe_part))]
-pub fn clear(table: &mut [u32], from: usize)
-    requires { from ≤ length table.old }
-    ensures { table.new ≡ wiped from table.old }
-{
-    table[from..].fill(0);
 }

@@ -1,8 +1,6 @@
 // The kinds of token, under the names and in the order of rico's lexer/token.rs.
 #![tactic(auto)]
 
-pub mod kind;
-
 ghost use Rattle.std.specs.Prelude.{◌≡◌};
 ghost use Rattle.token.specs.Code.{code};
 

@@ -14,6 +14,11 @@ use std::{fmt, io};
 struct Place(Span);
 
 impl fmt::Display for Place {
+    ghost use Rattle.std.specs.Prelude.{Some};
+    ghost use Rattle.tokens.specs.Text.{place_text};
+
+    ghost output = { λ place. Some (place_text place.0) };
+
     fn fmt<W: fmt::Write>(&self, f: &mut fmt::Formatter<W>) -> fmt::Result {
         let Span {
             index,
@@ -29,6 +34,11 @@ impl fmt::Display for Place {
 struct Row(ParserToken);
 
 impl fmt::Display for Row {
+    ghost use Rattle.std.specs.Prelude.{Some};
+    ghost use Rattle.tokens.specs.Text.{row_text};
+
+    ghost output = { λ row. Some (row_text row.0) };
+
     fn fmt<W: fmt::Write>(&self, f: &mut fmt::Formatter<W>) -> fmt::Result {
         let ParserToken { token, loc } = self.0;
         write!(
@@ -69,6 +79,6 @@ fn write_text(out: Stdout, text: &[u8]) -> io::Result<()> {
 
 fn main(rt: HostRuntime) -> io::Result<()> {
     let mut text = [0u8; 65537];
-    let n = input::read_full(rt.stdin(), &mut text)?;
+    let n = input::read_full(&mut rt.stdin(), &mut text)?;
     write_text(rt.stdout(), &text[..n])
 }

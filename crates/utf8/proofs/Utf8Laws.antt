@@ -385,3 +385,10 @@ ascii_from (c ∷ w) a h = rw (width_ascii c w h.0) (ascii_from w (suc a) h.1)
 pub well_ascii : (w : List ℕ) → Ascii w → WellFormed w
 unfolding ill_formed
 well_ascii w h = ascii_from w 0 h
+
+ascii_each : (w : List ℕ) → ((j : ℕ) → get_or w j 0 < 128) → Ascii w
+ascii_each [] f = tt
+ascii_each (c ∷ w) f = (f 0, ascii_each w (λ j. f (suc j)))
+
+pub well_plain : (w : List ℕ) → ((j : ℕ) → get_or w j 0 < 128) → WellFormed w
+well_plain w f = well_ascii w (ascii_each w f)

@@ -80,13 +80,13 @@ class_at-k-requires c = (omega (arith, c.if-text-at.false))
 pub behind-from-requires : goal.behind-from-requires
 behind-from-requires c = (c.loop-from.invariant.0, omega (arith, c.if-text-at.false, c.requires.0))
 
-pub loop-from-smaller-then-k-eq-BLANK : goal.loop-from-smaller-then-k-eq-BLANK
-loop-from-smaller-then-k-eq-BLANK c = omega (arith, ap (λ x. x.at) c.behind-from.ensures ∙ behind_at false c.loop-from.from, c.if-text-at.false)
+pub loop-from-smaller-then-k-ge-MARK : goal.loop-from-smaller-then-k-ge-MARK
+loop-from-smaller-then-k-ge-MARK c = omega (arith, ap (λ x. x.at) c.behind-from.ensures ∙ behind_at false c.loop-from.from, c.if-text-at.false)
 
-pub loop-from-preserved-then-k-eq-BLANK : goal.loop-from-preserved-then-k-eq-BLANK
-loop-from-preserved-then-k-eq-BLANK c = (
+pub loop-from-preserved-then-k-ge-MARK : goal.loop-from-preserved-then-k-ge-MARK
+loop-from-preserved-then-k-ge-MARK c = (
   rw c.behind-from.ensures (placed_behind false c.loop-from.from c.loop-from.invariant.0 (omega (arith, c.if-text-at.false, c.requires.0))),
-  rw c.behind-from.ensures (c.loop-from.invariant.1 ∙ next_blank _ c.loop-from.from (λ j. omega (arith, c.type_inv.text j)) c.if-text-at.false (sym c.class_at-k.ensures ∙ c.if-k-eq-BLANK.true)),
+  rw c.behind-from.ensures (c.loop-from.invariant.1 ∙ next_blank _ c.loop-from.from (λ j. omega (arith, c.type_inv.text j)) c.if-text-at.false (sym c.class_at-k.ensures ∙ c.if-k-ne-BLANK.false)),
 )
 
 pub behind-from-requires-then-is_line_end : goal.behind-from-requires-then-is_line_end
@@ -105,10 +105,10 @@ loop-from-preserved-then-is_line_end c =
 pub mark-requires : goal.mark-requires
 mark-requires c = (c.loop-from.invariant.0, omega (arith, c.if-text-at.false, c.requires.0))
 
-pub returns-then-k-ge-MARK : goal.returns-then-k-ge-MARK
-returns-then-k-ge-MARK c =
+pub returns-then-k-ne-BLANK : goal.returns-then-k-ne-BLANK
+returns-then-k-ne-BLANK c =
     c.mark.ensures
-    ∙ sym (c.loop-from.invariant.1 ∙ next_mark _ c.loop-from.from c.if-text-at.false (λ j. omega (arith, c.type_inv.text j)) _ c.class_at-k.ensures c.if-k-ge-MARK.true c.if-k-eq-BLANK.false)
+    ∙ sym (c.loop-from.invariant.1 ∙ next_mark _ c.loop-from.from c.if-text-at.false (λ j. omega (arith, c.type_inv.text j)) _ c.class_at-k.ensures c.if-k-ge-MARK.true c.if-k-ne-BLANK.true)
 
 pub scan_token-found-requires : goal.scan_token-found-requires
 scan_token-found-requires c = (omega (arith, c.if-text-at.false))

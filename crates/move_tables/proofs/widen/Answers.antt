@@ -1,48 +1,33 @@
 -- `move_tables::widen` meets its contract: each answer is a case of the definition (`Answers`).
 use mathlib.Core.Path.{◌∙◌}
 use native.Mathlib.Omega.{arith}
-use borrow.Author.Rules.{rules}
-use Rattle.ast.specs.Records.{comment_width, node_width, no_parent}
-use Rattle.move_tables.specs.Moves.{narrow_width}
-use Rattle.move_tables.proofs.Answers.{uneven, many, is_whole, bad_found, fine, widen_length, widen_parent, widen_short, widen_done}
+use Rattle.std.proofs.lemmas.Result.{err_from_is_err_and}
+use Rattle.ast.specs.Records.{comment_width, node_width}
+use Rattle.move_tables.proofs.Answers.{good_are, wholes, widen_unmovable, widen_off, widen_on}
 use Rattle.move_tables.proofs.widen.Goals as goal
 
-pub returns-then-table-ne0 : goal.returns-then-table-ne0
+pub returns-in_err-records : goal.returns-in_err-records
 unfolding comment_width
-returns-then-table-ne0 c = c.refuse.ensures ∙ widen_length _ _ (uneven narrow_width _ c.if-table-ne0.true)
+returns-in_err-records c =
+    let p = err_from_is_err_and c.from_residual.result c.from_residual.ensures.1 in
+    rw (p.1, p.2) (c.in_err-records.ensures.2 ∙ widen_unmovable _ _ c.in_err-records.ensures.1)
 
-pub returns-then-count-gt-MOST_RECORDS : goal.returns-then-count-gt-MOST_RECORDS
-unfolding comment_width
-returns-then-count-gt-MOST_RECORDS c = c.refuse-then-count-gt-MOST_RECORDS.ensures ∙ widen_length _ _ (many narrow_width _ c.if-count-gt-MOST_RECORDS.true)
-
-pub bad_parent-requires : goal.bad_parent-requires
-bad_parent-requires c = search rules
-
-pub returns-in-Some : goal.returns-in-Some
-unfolding comment_width no_parent
-returns-in-Some c =
-    let even = c.if-table-ne0.false in
-    let few = c.if-count-gt-MOST_RECORDS.false in
-    c.refuse-in-Some.ensures ∙ widen_parent _ _ _ (is_whole narrow_width _ even few) (bad_found narrow_width _ even few (omega arith) c.bad_parent.ensures c.in-Some.is)
-
-pub returns-then-out-widened : goal.returns-then-out-widened
-unfolding comment_width node_width no_parent
-returns-then-out-widened c =
-    let f = fine narrow_width _ c.if-table-ne0.false c.if-count-gt-MOST_RECORDS.false (omega arith) c.bad_parent.ensures c.in_default.is in
-    c.refuse-then-out-widened.ensures ∙ widen_short _ _ f c.if-out-widened.true
-
-pub copy-requires : goal.copy-requires
+pub lay-requires : goal.lay-requires
 unfolding comment_width node_width
-copy-requires c = search rules
+lay-requires c = wholes _ _ c.in_ok-records.ensures.1 c.in_ok-records.ensures.0 (omega arith) (omega arith) (omega arith)
+
+pub returns-in_err-lay : goal.returns-in_err-lay
+unfolding comment_width node_width
+returns-in_err-lay c =
+    let p = err_from_is_err_and c.from_residual-in_err-lay.result c.from_residual-in_err-lay.ensures.1 in
+    rw (p.1, p.2) (widen_off _ _ c.in_ok-records.ensures _ _ c.in_err-lay.ensures)
 
 pub write_pasts-requires : goal.write_pasts-requires
-unfolding comment_width node_width no_parent
+unfolding comment_width node_width
 write_pasts-requires c =
-    let f = fine narrow_width _ c.if-table-ne0.false c.if-count-gt-MOST_RECORDS.false (omega arith) c.bad_parent.ensures c.in_default.is in
-    (f.good, omega (arith, c.copy.ensures.long, c.if-out-widened.false))
+    let l = c.in_ok-lay.ensures in
+    (good_are _ _ c.in_ok-records.ensures.1 c.in_ok-records.ensures.0, omega (arith, l.1, l.2.long))
 
 pub returns : goal.returns
-unfolding comment_width node_width no_parent
-returns c =
-    let f = fine narrow_width _ c.if-table-ne0.false c.if-count-gt-MOST_RECORDS.false (omega arith) c.bad_parent.ensures c.in_default.is in
-    widen_done _ _ f _ _ _ c.if-out-widened.false c.copy.ensures c.clear.ensures c.write_pasts.ensures
+unfolding comment_width node_width
+returns c = widen_on _ _ c.in_ok-records.ensures _ _ c.in_ok-lay.ensures c.write_pasts.ensures

@@ -1,17 +1,13 @@
 -- `parse_definitions::parse_typed_name` meets its contract.
-use mathlib.Core.Path.{◌∙◌}
-use Rattle.steps.proofs.Chain.{last, off, on}
-use Rattle.parse_definitions.proofs.Forms.{typed_name_is}
+use mathlib.Core.Path.{refl}
+use Rattle.steps.proofs.Chain.{begins, on, off, last}
+use Rattle.parse_definitions.specs.Into.{typed_name_in}
 use Rattle.parse_definitions.proofs.parse_typed_name.Goals as goal
 
-pub shape_of-rest-in_err-typed : goal.shape_of-rest-in_err-typed
-shape_of-rest-in_err-typed c = c.parse_type.auto.rest
-
-pub returns-in_err-typed : goal.returns-in_err-typed
-returns-in_err-typed c = λ u. off _ _ _ (typed_name_is _ _ _ _ _ _ _) _ _ _ _ _ (c.parse_type.ensures u) c.in_err-typed.was c.from_residual.ensures _ _
-
-pub shape_of-rest : goal.shape_of-rest
-shape_of-rest c = c.parse_name.auto.rest ∙ c.parse_type.auto.rest
+pub returns-in_err-parse_type : goal.returns-in_err-parse_type
+unfolding typed_name_in
+returns-in_err-parse_type c = off c.parse_type.ensures c.in_err-parse_type.was c.from_residual.ensures _ (begins refl)
 
 pub returns : goal.returns
-returns c = λ u. last _ _ _ _ _ (on _ _ _ (typed_name_is _ _ _ _ _ _ _) _ _ _ _ (c.parse_type.ensures u) c.in_ok-typed.was) (c.parse_name.ensures u)
+unfolding typed_name_in
+returns c = last c.parse_name.ensures (on c.parse_type.ensures c.in_ok-parse_type.was _ (begins refl))

@@ -1,23 +1,11 @@
 -- `parse_definitions::parse_typedef` meets its contract.
-use mathlib.Core.Path.{◌∙◌}
-use Rattle.steps.proofs.Chain.{ends, kept, off, on}
-use Rattle.parse_definitions.proofs.Forms.{typedef_is}
+use mathlib.Core.Path.{refl}
+use Prim.Native.Nat.{ℕ}
+use Rattle.steps.specs.Reads.{Source}
+use Rattle.steps.proofs.Chain.{begins, last}
+use Rattle.parse_definitions.specs.Into.{typed_name_in, typedef_in}
 use Rattle.parse_definitions.proofs.parse_typedef.Goals as goal
 
-pub shape_of-rest-in_err-state : goal.shape_of-rest-in_err-state
-shape_of-rest-in_err-state c = c.parse_typed_name.auto.rest
-
-pub shape_of-comments-in_err-state : goal.shape_of-comments-in_err-state
-shape_of-comments-in_err-state c = c.begin-begun.auto.comments
-
-pub returns-in_err-state : goal.returns-in_err-state
-returns-in_err-state c = off _ _ _ (kept _ _ _ (typedef_is _ _ _ _) _ _ _ (c.begin-begun.ensures _)) _ _ _ _ _ (c.parse_typed_name.ensures _) c.in_err-state.was c.from_residual.ensures _ _
-
-pub shape_of-rest : goal.shape_of-rest
-shape_of-rest c = c.close.auto.rest ∙ c.parse_typed_name.auto.rest
-
-pub shape_of-comments : goal.shape_of-comments
-shape_of-comments c = c.begin-begun.auto.comments
-
 pub returns : goal.returns
-returns c = ends _ _ _ _ _ (on _ _ _ (kept _ _ _ (typedef_is _ _ _ _) _ _ _ (c.begin-begun.ensures _)) _ _ _ _ (c.parse_typed_name.ensures _) c.in_ok-state.was) (c.close.ensures _)
+unfolding typedef_in
+returns c = last (c.define.ensures (λ (q : ℕ) (x : Source). typed_name_in x.text 14 x.base q) (λ s n r t h. h)) (begins refl)

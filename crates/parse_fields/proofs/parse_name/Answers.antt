@@ -1,10 +1,10 @@
 -- `parse_fields::parse_name` meets its contract.
-use Rattle.steps.proofs.Chain.{last}
-use Rattle.parse_fields.proofs.Forms.{name_is}
+use mathlib.Core.Path.{refl}
+use Rattle.steps.proofs.Chain.{begins, last}
+use Rattle.parse_fields.specs.Into.{name_in}
+use Rattle.token.specs.Code.{code}
 use Rattle.parse_fields.proofs.parse_name.Goals as goal
 
-pub shape_of-rest : goal.shape_of-rest
-shape_of-rest c = c.parse_leaf.auto.rest
-
 pub returns : goal.returns
-returns c = λ u. last _ _ _ _ _ (name_is _ _ _ _ _ _ _) (c.parse_leaf.ensures u)
+unfolding name_in code
+returns c = last c.parse_leaf.ensures (begins refl)

@@ -1,9 +1,10 @@
 -- `reader::fit` meets its contract.
-use Prim.Native.Nat.{◌<◌, ◌≤◌}
+use Prim.Native.Nat.{◌*◌, ◌<◌, ◌≤◌}
 use borrow.Author.Tests.{lt-ltb, le-ltb}
 use Rattle.ast.specs.Records.{comment_width, node_width, room}
 use Rattle.lexer.specs.Refusal.{said_by}
 use Rattle.reader.specs.Into.{fits}
+use Rattle.steps.proofs.Cells.{clears}
 use Rattle.reader.proofs.fit.Goals as goal
 
 pub returns-then-nodes-next : goal.returns-then-nodes-next
@@ -27,4 +28,4 @@ returns c =
     let a = c.args in
     let h : a.state.next ≤ room node_width a.nodes.now = c.if-nodes-next.false in
     let k : a.state.owned ≤ room comment_width a.comments.now = c.if-comments-owned.false in
-    rw (le-ltb _ _ h, le-ltb _ _ k, c.clear.ensures, c.clear-2.ensures)
+    rw (le-ltb _ _ h, le-ltb _ _ k, clears (a.state.next * 10) a.nodes.now c.clear.new.list c.clear.ensures, clears (a.state.owned * 9) a.comments.now c.clear-2.new.list c.clear-2.ensures)

@@ -5,12 +5,6 @@ use Rattle.lexer.proofs.Places.{unknown_small}
 use Rattle.reader.proofs.Whole.{parse_unknown, parse_judged}
 use Rattle.reader.proofs.parse.Goals as goal
 
-pub begin-st-requires : goal.begin-st-requires
-begin-st-requires c = record { short = c.requires }
-
-pub parse_document-parsed-requires : goal.parse_document-parsed-requires
-parse_document-parsed-requires c = record { short = c.requires }
-
 pub overflow_cast-at : goal.overflow_cast-at
 overflow_cast-at c =
     let u = c.unscanned-from in
@@ -18,10 +12,10 @@ overflow_cast-at c =
 
 pub returns-in-Some : goal.returns-in-Some
 returns-in-Some c =
-    parse_unknown _ _ _ _ _ _ _ _ c.begin-st.ensures c.parse_document-parsed.ensures (c.unscanned-from.ensures.1 _ _) c.parse_document-parsed.auto.nodes c.parse_document-parsed.auto.comments
+    parse_unknown _ _ _ _ _ _ _ c.parse_text-parsed.ensures (c.unscanned-from.ensures.1 _ _) c.parse_text-parsed.auto.nodes c.parse_text-parsed.auto.comments
     _ _ (sym c.unrecognized.ensures ∙ c.in-Some.is) (rw c.at.ensures at c.refuse.ensures)
 
 pub returns : goal.returns
 returns c =
-    parse_judged _ _ _ _ _ _ _ _ c.begin-st.ensures c.parse_document-parsed.ensures (c.unscanned-from.ensures.1 _ _) c.parse_document-parsed.auto.nodes c.parse_document-parsed.auto.comments
+    parse_judged _ _ _ _ _ _ _ c.parse_text-parsed.ensures (c.unscanned-from.ensures.1 _ _) c.parse_text-parsed.auto.nodes c.parse_text-parsed.auto.comments
     _ (sym c.unrecognized.ensures ∙ c.in_default.is) c.judge.ensures

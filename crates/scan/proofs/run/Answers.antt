@@ -1,24 +1,22 @@
--- `scan::run` meets its contract: the first place is how many bytes stand before those classes.
-use mathlib.Core.Path.{◌≡◌, ap}
-use Prim.Native.Nat.{ℕ, ◌+◌, ◌-◌}
-use borrow.Author.Rules.{rules}
-use borrow.Author.Tests.{tests}
-use lib.ListN.{length, take, drop}
-use Rattle.std.specs.Option.{unwrap_or}
-use Rattle.std.proofs.lemmas.Iterator.{YieldsList-from_slice, IsFirst-from_position, index_from_first}
-use Rattle.token.specs.Run.{stops, before}
-use Rattle.scan.proofs.Part.{part}
-use Rattle.scan.proofs.RunLaws.{Stops, Passes, before_nil, before_hit, before_miss}
+-- `scan::run` meets its contract. The invariant: the run from `at` on ends where the run from `i` on does.
+use mathlib.Core.Path.{sym, ◌∙◌}
+use native.Mathlib.Omega.{arith}
+use Rattle.scan.proofs.RunLaws.{run_here, run_below, run_above, run_all}
 use Rattle.scan.proofs.run.Goals as goal
+use Rattle.scan.proofs.run.Goals.{else-from-k-via-then-from-k+else-k-to, else-from-k-via-else-from-k}
+
+pub returns-then-k-to : goal.returns-then-k-to
+returns-then-k-to c =
+    sym (c.loop-i.invariant
+    ∙ run_here _ _ _ _ c.loop-i-test.true (rw c.class_at-k.ensures at c.if-from-k.true) (rw c.class_at-k.ensures at c.if-k-to.true))
+
+pub loop-i-preserved : goal.loop-i-preserved
+loop-i-preserved c =
+    c.loop-i.invariant
+    ∙ elim c.else-from-k.branch [
+      | else-from-k-via-then-from-k+else-k-to w ↦ run_above _ _ _ _ c.loop-i-test.true (rw c.class_at-k.ensures at w.if-from-k.true) (rw c.class_at-k.ensures at w.if-k-to.false)
+      | else-from-k-via-else-from-k w ↦ run_below _ _ _ _ c.loop-i-test.true (rw c.class_at-k.ensures at w.if-from-k.false)
+    ]
 
 pub returns : goal.returns
-unfolding stops
-returns c =
-    let w = drop c.args.at c.args.text.now in
-    let p = c.args.from in
-    let q = c.args.to in
-    let d : take (length c.args.text.now - c.args.at) w ≡ w = part c.args.text.now c.args.at in
-    let e : before p q w ≡ unwrap_or c.position-found.result (length w) = index_from_first (before p q) (Stops p q) (Passes p q) (before_nil p q) (before_hit p q) (before_miss p q) w c.position-found.result
-    (IsFirst-from_position _ _ _ (Stops p q) (Passes p q) c.position-found.ensures.ran (YieldsList-from_slice w cc) (λ x q k. search (rules, tests)) (λ x q k. search (rules, tests))) in
-    let u : c.unwrap_or.result ≡ before p q w = cc in
-    ap (λ (n : ℕ). c.args.at + n) u
+returns c = omega (arith, c.loop-i.invariant ∙ run_all _ _ _ _ c.loop-i-test.false, c.loop-i.auto.i-end c.requires, c.loop-i-test.false)

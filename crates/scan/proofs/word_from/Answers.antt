@@ -7,7 +7,7 @@ use Rattle.token.proofs.WordNumber.{from_below}
 use Rattle.scan.proofs.ScanLaws.{letter_on}
 use Rattle.scan.proofs.WordLaws.{number_none, number_on, word_cut, word_ends}
 use mathlib.Core.Path.{◌≡◌, ap}
-use Prim.Native.Nat.{ℕ}
+use Prim.Native.Nat.{ℕ, ◌+◌}
 use lib.ListN.{length}
 use Rattle.std.specs.Prelude.{Some}
 use Rattle.scan.proofs.word_from.Goals as goal
@@ -15,11 +15,14 @@ use Rattle.scan.proofs.word_from.Goals as goal
 pub loop-i-init : goal.loop-i-init
 loop-i-init c = (c.requires.0, omega arith, number_none c.args.text.now c.args.number c.args.at)
 
-pub name_of-requires : goal.name_of-requires
-name_of-requires c = (c.loop-i.invariant.0)
+pub name_of-requires-then-now-eq-NO_KEYWORD : goal.name_of-requires-then-now-eq-NO_KEYWORD
+name_of-requires-then-now-eq-NO_KEYWORD c = letter_on c.loop-i.invariant.0 c.loop-i-test.true (rw c.class_at-k.ensures at c.if-k-ge-DOT.false)
 
 pub returns-then-now-eq-NO_KEYWORD : goal.returns-then-now-eq-NO_KEYWORD
-returns-then-now-eq-NO_KEYWORD c = word_cut c.args.text.now c.args.number c.args.at c.loop-i.i no_keyword c.loop-i.invariant.0 c.loop-i.invariant.1 (sym c.if-now-eq-NO_KEYWORD.true ∙ c.loop-i.invariant.2) c.name_of.result c.name_of.ensures
+returns-then-now-eq-NO_KEYWORD c =
+    let t = c.args.text.now in
+    let e = number_on t c.args.number c.args.at c.loop-i.i c.loop-i.now c.loop-i.invariant.2 c.loop-i.invariant.1 c.loop-i-test.true c.step-now.result (rw c.class_at-k.ensures at c.step-now.ensures) in
+    word_cut t c.args.number c.args.at (c.loop-i.i + 1) no_keyword (letter_on c.loop-i.invariant.0 c.loop-i-test.true (rw c.class_at-k.ensures at c.if-k-ge-DOT.false)) (omega (arith, c.loop-i.invariant.1)) (sym c.if-now-eq-NO_KEYWORD.true ∙ e) c.name_of-then-now-eq-NO_KEYWORD.result c.name_of-then-now-eq-NO_KEYWORD.ensures
 
 pub class_at-k-requires : goal.class_at-k-requires
 class_at-k-requires c = (c.loop-i-test.true)

@@ -4,13 +4,16 @@ use Prim.Native.Nat.{◌≤◌, ◌<◌}
 use native.Mathlib.Omega.{arith}
 use lib.ListN.{length, drop_of_length-le}
 use Rattle.utf8.specs.Utf8.{ill_from, ill_formed}
-use Rattle.utf8.proofs.Utf8Laws.{ascii_part, ill_here}
+use Rattle.utf8.proofs.Utf8Laws.{ascii_part, ill_here, well_plain}
 use Rattle.utf8.proofs.ill_formed.Goals as goal
 use Rattle.utf8.proofs.ill_formed.Goals.{then-stop-at-gt-PART, else-stop-at-gt-PART, Joined-stop-at-gt-PART}
 
 -- the part ends behind its start, and in the text
 stops : (c : Joined-stop-at-gt-PART) → (c.loop-at.at < c.if-stop-at-gt-PART.stop) × (c.if-stop-at-gt-PART.stop ≤ length c.args.text.now)
 stops c = elim c.if-stop-at-gt-PART.branch [ then-stop-at-gt-PART w ↦ (omega arith, omega arith) | else-stop-at-gt-PART w ↦ (omega arith, omega arith) ]
+
+pub returns-then-is_plain : goal.returns-then-is_plain
+returns-then-is_plain c = sym (well_plain c.args.text.now c.if-is_plain.ensures.cases)
 
 pub loop-at-init : goal.loop-at-init
 unfolding ill_formed

@@ -1,24 +1,10 @@
 -- `parse_fields::fields::is_field_name` meets its contract.
-use borrow.Author.Tests.{lt-ltb, le-ltb, le-leb, lt-leb}
-use Rattle.parse_fields.specs.Into.{is_field_name}
+use Rattle.parser.proofs.KindLaws.{any_of, none_of, none_left}
+use Rattle.parse_fields.proofs.KindTests.{words, name_word, name_not}
 use Rattle.parse_fields.proofs.fields.is_field_name.Goals as goal
 
-pub returns-then-kind-lt-SERVICE : goal.returns-then-kind-lt-SERVICE
-unfolding is_field_name
-returns-then-kind-lt-SERVICE c = rw (lt-ltb _ _ c.if-kind-lt-SERVICE.true) c.is_early_name.ensures
+pub returns-in-Namespace : goal.returns-in-Namespace
+returns-in-Namespace c = name_word _ (any_of _ words c.in-Namespace.is)
 
-pub returns-then-kind-le-OPTIONAL : goal.returns-then-kind-le-OPTIONAL
-unfolding is_field_name
-returns-then-kind-le-OPTIONAL c = rw (le-ltb _ _ c.if-kind-lt-SERVICE.false, le-leb _ _ c.if-kind-le-OPTIONAL.true)
-
-pub returns-then-kind-lt-BOOL : goal.returns-then-kind-lt-BOOL
-unfolding is_field_name
-returns-then-kind-lt-BOOL c = rw (le-ltb _ _ c.if-kind-lt-SERVICE.false, lt-leb _ _ c.if-kind-le-OPTIONAL.false, lt-ltb _ _ c.if-kind-lt-BOOL.true)
-
-pub returns-then-kind-le-IDENTIFIER : goal.returns-then-kind-le-IDENTIFIER
-unfolding is_field_name
-returns-then-kind-le-IDENTIFIER c = rw (le-ltb _ _ c.if-kind-lt-SERVICE.false, lt-leb _ _ c.if-kind-le-OPTIONAL.false, le-ltb _ _ c.if-kind-lt-BOOL.false, le-leb _ _ c.if-kind-le-IDENTIFIER.true)
-
-pub returns : goal.returns
-unfolding is_field_name
-returns c = rw (le-ltb _ _ c.if-kind-lt-SERVICE.false, lt-leb _ _ c.if-kind-le-OPTIONAL.false, le-ltb _ _ c.if-kind-lt-BOOL.false, lt-leb _ _ c.if-kind-le-IDENTIFIER.false)
+pub returns-in_default : goal.returns-in_default
+returns-in_default c = let n = c.in_default in name_not _ (none_of _ n.not-Identifier (none_of _ n.not-Namespace (none_of _ n.not-Include (none_of _ n.not-List (none_of _ n.not-Map (none_of _ n.not-Set (none_of _ n.not-Oneway (none_of _ n.not-Required (none_of _ n.not-Optional (none_of _ n.not-Throws (none_of _ n.not-Bool (none_of _ n.not-Byte (none_of _ n.not-I8 (none_of _ n.not-I16 (none_of _ n.not-I32 (none_of _ n.not-I64 (none_of _ n.not-String (none_of _ n.not-Binary (none_of _ n.not-Extends (none_of _ n.not-Struct (none_of _ n.not-Double (none_of _ n.not-Service (none_of _ n.not-Enum (none_left _))))))))))))))))))))))))

@@ -1,14 +1,13 @@
 -- `parse_fields::fields::parse_default` meets its contract.
-use Rattle.steps.proofs.Chain.{given, last, no, ret, yes}
+use Rattle.steps.proofs.Chain.{begins, kept, ends, last, when, unless}
 use Rattle.parse_fields.proofs.Forms.{default_is}
-use Rattle.parse_values.specs.Into.{value_in}
+use Rattle.token.specs.Code.{code}
 use Rattle.parse_fields.proofs.fields.parse_default.Goals as goal
 
-pub returns-then-st-ne-EQUALS : goal.returns-then-st-ne-EQUALS
-returns-then-st-ne-EQUALS c = λ u. ret _ _ _ _ (no _ _ _ _ _ (default_is _ _ _ _ _ _) c.if-st-ne-EQUALS.true)
-
-pub shape_of-rest : goal.shape_of-rest
-shape_of-rest c = c.parse_value.auto.rest
+pub returns-then-not-is : goal.returns-then-not-is
+unfolding code
+returns-then-not-is c = ends (unless _ _ _ _ c.is.ensures c.if-not-is.true (begins (default_is _ _ _ _ _ _)))
 
 pub returns : goal.returns
-returns c = λ u. last _ _ _ _ _ (yes _ _ _ _ _ (default_is _ _ _ _ _ _) c.if-st-ne-EQUALS.false) (given (value_in _ _ _ _) _ _ _ _ _ c.advance-state.ensures (c.parse_value.ensures u))
+unfolding code
+returns c = last c.parse_value.ensures (kept c.advance.ensures _ (when _ _ _ _ c.is.ensures c.if-not-is.false (begins (default_is _ _ _ _ _ _))))

@@ -1,12 +1,12 @@
 -- `parse_members::functions::flag_if` meets its contract.
-use borrow.Author.Tests.{eq-eqb, ne_eqb}
+use mathlib.Core.Path.{sym, ◌∙◌}
 use Rattle.parse_members.specs.Into.{flag_if}
 use Rattle.parse_members.proofs.functions.flag_if.Goals as goal
 
-pub returns-then-ahead-kind : goal.returns-then-ahead-kind
+pub returns-then-is : goal.returns-then-is
 unfolding flag_if
-returns-then-ahead-kind c = rw (eq-eqb _ _ c.if-ahead-kind.true)
+returns-then-is c = rw (sym c.is.ensures ∙ c.if-is.true)
 
-pub returns-else-ahead-kind : goal.returns-else-ahead-kind
+pub returns-else-is : goal.returns-else-is
 unfolding flag_if
-returns-else-ahead-kind c = rw (ne_eqb _ _ c.if-ahead-kind.false)
+returns-else-is c = rw (sym c.is.ensures ∙ c.if-is.false)

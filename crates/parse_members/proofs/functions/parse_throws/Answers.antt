@@ -1,17 +1,13 @@
 -- `parse_members::functions::parse_throws` meets its contract.
-use Rattle.steps.proofs.Chain.{given, last, no, ret, yes}
+use Rattle.steps.proofs.Chain.{begins, kept, ends, last, when, unless}
 use Rattle.parse_members.proofs.Forms.{throws_is}
-use Rattle.parse_fields.specs.Into.{fields_in}
+use Rattle.token.specs.Code.{code}
 use Rattle.parse_members.proofs.functions.parse_throws.Goals as goal
 
-pub returns-then-st-ne-THROWS : goal.returns-then-st-ne-THROWS
-returns-then-st-ne-THROWS c = ret _ _ _ _ (no _ _ _ _ _ (throws_is _ _ _ _ _ _) c.if-st-ne-THROWS.true)
-
-pub shape_of-rest : goal.shape_of-rest
-shape_of-rest c = c.parse_fields.auto.rest
-
-pub shape_of-comments : goal.shape_of-comments
-shape_of-comments c = c.parse_fields.auto.comments
+pub returns-then-not-is : goal.returns-then-not-is
+unfolding code
+returns-then-not-is c = ends (unless _ _ _ _ c.is.ensures c.if-not-is.true (begins (throws_is _ _ _ _ _ _)))
 
 pub returns : goal.returns
-returns c = last _ _ _ _ _ (yes _ _ _ _ _ (throws_is _ _ _ _ _ _) c.if-st-ne-THROWS.false) (given (fields_in _ _ _ _ _ _) _ _ _ _ _ c.advance-state.ensures c.parse_fields.ensures)
+unfolding code
+returns c = last c.parse_fields.ensures (kept c.advance.ensures _ (when _ _ _ _ c.is.ensures c.if-not-is.false (begins (throws_is _ _ _ _ _ _))))

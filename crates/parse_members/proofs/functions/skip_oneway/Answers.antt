@@ -1,12 +1,13 @@
 -- `parse_members::functions::skip_oneway` meets its contract.
-use borrow.Author.Tests.{eq-eqb, ne_eqb}
-use Rattle.parse_members.specs.Into.{skip_oneway}
+use Rattle.steps.proofs.Chain.{begins, ends, last, when, unless}
+use Rattle.parse_members.proofs.Forms.{skip_oneway_is}
+use Rattle.token.specs.Code.{code}
 use Rattle.parse_members.proofs.functions.skip_oneway.Goals as goal
 
-pub returns-then-st-ne-ONEWAY : goal.returns-then-st-ne-ONEWAY
-unfolding skip_oneway
-returns-then-st-ne-ONEWAY c = rw (ne_eqb _ _ c.if-st-ne-ONEWAY.true)
+pub returns-then-is : goal.returns-then-is
+unfolding code
+returns-then-is c = last c.advance.ensures (when _ _ _ _ c.is.ensures c.if-is.true (begins (skip_oneway_is _ _ _ _)))
 
-pub returns : goal.returns
-unfolding skip_oneway
-returns c = rw (eq-eqb _ _ c.if-st-ne-ONEWAY.false) c.advance.ensures
+pub returns-else-is : goal.returns-else-is
+unfolding code
+returns-else-is c = ends (unless _ _ _ _ c.is.ensures c.if-is.false (begins (skip_oneway_is _ _ _ _)))

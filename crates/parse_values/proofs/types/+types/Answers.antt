@@ -1,71 +1,86 @@
--- `parse_type`, `parse_complex_type` and `parse_contained` meet their contracts: each is its calls, one after another.
--- The measure is three times the containers left, and the place in the cycle.
-use mathlib.Core.Path.{refl}
-use native.Mathlib.Omega.{arith}
-use Rattle.steps.specs.Into.{expect_in}
-use Rattle.steps.proofs.Chain.{on, off, last, node, given, ends, fails, yes, no}
-use Rattle.parse_values.proofs.ContainerForms.{contained_is, complex_is, type_is}
+-- `parse_type` and what it reads containers with meet their contracts: each is its calls, one after another.
+use mathlib.Core.Path.{refl, ap}
+use Prim.Native.Nat.{ℕ}
+use borrow.Author.Tests.{eq-eqb, ne_eqb}
+use Rattle.token.specs.Code.{code}
+use Rattle.lexer.specs.declared.error.ErrorKind.TheVariants as E
+use Rattle.ast.specs.declared.kind.Kind.TheVariants as V
+use Rattle.ast.specs.KindNumber.{number_of}
+use Rattle.ast.proofs.KindLaws.{number_unlike, number_some}
+use Rattle.steps.specs.Reads.{Source}
+use Rattle.steps.proofs.Chain.{begins, kept, on, off, last, halts, when, unless}
+use Rattle.steps.proofs.AheadTests.{some_ahead, not_ahead, record_some, record_none}
+use Rattle.parse_values.specs.Into.{angles_in, contained_in, leaf_type, container_type, type_in}
+use Rattle.parse_values.proofs.Forms.{complex_is, type_absent, type_alone, type_unknown, type_deep, type_inside}
 use Rattle.parse_values.proofs.types.+types.Goals as goal
 
-pub parse_complex_type-expect-requires : goal.parse_complex_type-expect-requires
-parse_complex_type-expect-requires t c = c.requires
+pub parse_angles-returns-in_err-expect : goal.parse_angles-returns-in_err-expect
+unfolding angles_in code
+parse_angles-returns-in_err-expect t c = off c.expect.ensures c.in_err-expect.was c.from_residual.ensures _ (begins refl)
 
-pub parse_complex_type-returns-in_err-inner : goal.parse_complex_type-returns-in_err-inner
-parse_complex_type-returns-in_err-inner t c = λ u. off _ _ _ (complex_is _ _ _ _ _ _ _ _) _ _ _ _ _ (given (expect_in _ 38 2) _ _ _ _ _ c.open.ensures (c.expect.ensures _ _)) c.in_err-inner.was c.from_residual.ensures _ _
+pub parse_angles-returns-in_err-parse_contained : goal.parse_angles-returns-in_err-parse_contained
+unfolding angles_in code
+parse_angles-returns-in_err-parse_contained t c =
+    off c.parse_contained.ensures c.in_err-parse_contained.was c.from_residual-in_err-parse_contained.ensures _ (on c.expect.ensures c.in_ok-expect.was _ (begins refl))
 
-pub parse_complex_type-parse_contained-requires : goal.parse_complex_type-parse_contained-requires
-parse_complex_type-parse_contained-requires t c = (omega arith, c.requires)
-
-pub parse_complex_type-returns-in_err-behind : goal.parse_complex_type-returns-in_err-behind
-parse_complex_type-returns-in_err-behind t c = λ u. off _ _ _ (on _ _ _ (complex_is _ _ _ _ _ _ _ _) _ _ _ _ (given (expect_in _ 38 2) _ _ _ _ _ c.open.ensures (c.expect.ensures _ _)) c.in_ok-inner.was) _ _ _ _ _ (c.parse_contained.ensures _) c.in_err-behind.was c.from_residual-in_err-behind.ensures _ _
-
-pub parse_complex_type-expect-requires-2 : goal.parse_complex_type-expect-requires-2
-parse_complex_type-expect-requires-2 t c = c.requires
-
-pub parse_complex_type-returns-in_err-state : goal.parse_complex_type-returns-in_err-state
-parse_complex_type-returns-in_err-state t c = λ u. off _ _ _ (on _ _ _ (on _ _ _ (complex_is _ _ _ _ _ _ _ _) _ _ _ _ (given (expect_in _ 38 2) _ _ _ _ _ c.open.ensures (c.expect.ensures _ _)) c.in_ok-inner.was) _ _ _ _ (c.parse_contained.ensures _) c.in_ok-behind.was) _ _ _ _ _ (c.expect-2.ensures _ _) c.in_err-state.was c.from_residual-in_err-state.ensures _ _
+pub parse_angles-returns : goal.parse_angles-returns
+unfolding angles_in code
+parse_angles-returns t c =
+    last c.expect-2.ensures (on c.parse_contained.ensures c.in_ok-parse_contained.was _ (on c.expect.ensures c.in_ok-expect.was _ (begins refl)))
 
 pub parse_complex_type-returns : goal.parse_complex_type-returns
-parse_complex_type-returns t c = λ u. node _ _ _ _ _ _ _ _ _ _ _ (on _ _ _ (on _ _ _ (on _ _ _ (complex_is _ _ _ _ _ _ _ _) _ _ _ _ (given (expect_in _ 38 2) _ _ _ _ _ c.open.ensures (c.expect.ensures _ _)) c.in_ok-inner.was) _ _ _ _ (c.parse_contained.ensures _) c.in_ok-behind.was) _ _ _ _ (c.expect-2.ensures _ _) c.in_ok-state.was) c.put_node.ensures
+parse_complex_type-returns t c =
+    last (c.enclose.ensures (λ (q : ℕ) (x : Source). angles_in x.text (number_of c.args.kind) (type_in x.text c.args.depth x.base q)) (λ s n r t h. h)) (begins (complex_is _ _ _ _ _ _ _ _))
 
-pub parse_contained-parse_type-first-requires : goal.parse_contained-parse_type-first-requires
-parse_contained-parse_type-first-requires t c = (omega arith, c.requires)
+pub parse_contained-returns-in_err-parse_type-in-Map : goal.parse_contained-returns-in_err-parse_type-in-Map
+unfolding contained_in
+parse_contained-returns-in_err-parse_type-in-Map t c =
+    off c.parse_type.ensures c.in_err-parse_type-in-Map.was c.from_residual.ensures _ (when _ _ _ _ refl (eq-eqb _ _ (ap number_of c.in-Map.is)) (begins refl))
 
-pub parse_contained-returns-then-kind-ne-MAP : goal.parse_contained-returns-then-kind-ne-MAP
-parse_contained-returns-then-kind-ne-MAP t c = λ u. last _ _ _ _ _ (no _ _ _ _ _ (contained_is _ _ _ _ _ _) c.if-kind-ne-MAP.true) (c.parse_type-first.ensures _)
+pub parse_contained-returns-in_err-expect-in-Map : goal.parse_contained-returns-in_err-expect-in-Map
+unfolding contained_in code
+parse_contained-returns-in_err-expect-in-Map t c =
+    off c.expect.ensures c.in_err-expect-in-Map.was c.from_residual-in_err-expect-in-Map.ensures _
+    (on c.parse_type.ensures c.in_ok-parse_type-in-Map.was _ (when _ _ _ _ refl (eq-eqb _ _ (ap number_of c.in-Map.is)) (begins refl)))
 
-pub parse_contained-returns-in_err-key : goal.parse_contained-returns-in_err-key
-parse_contained-returns-in_err-key t c = λ u. off _ _ _ (yes _ _ _ _ _ (contained_is _ _ _ _ _ _) c.if-kind-ne-MAP.false) _ _ _ _ _ (c.parse_type-first.ensures _) c.in_err-key.was c.from_residual.ensures _ _
+pub parse_contained-returns-in_ok-expect-in-Map : goal.parse_contained-returns-in_ok-expect-in-Map
+unfolding contained_in code
+parse_contained-returns-in_ok-expect-in-Map t c =
+    last c.parse_type-in-Map.ensures
+    (on c.expect.ensures c.in_ok-expect-in-Map.was _ (on c.parse_type.ensures c.in_ok-parse_type-in-Map.was _ (when _ _ _ _ refl (eq-eqb _ _ (ap number_of c.in-Map.is)) (begins refl))))
 
-pub parse_contained-expect-requires : goal.parse_contained-expect-requires
-parse_contained-expect-requires t c = c.requires
+pub parse_contained-returns-in_default : goal.parse_contained-returns-in_default
+unfolding contained_in
+parse_contained-returns-in_default t c = last c.parse_type-in_default.ensures (unless _ _ _ _ refl (number_unlike _ V.Map c.in_default.not-Map) (begins refl))
 
-pub parse_contained-returns-in_err-value : goal.parse_contained-returns-in_err-value
-parse_contained-returns-in_err-value t c = λ u. off _ _ _ (on _ _ _ (yes _ _ _ _ _ (contained_is _ _ _ _ _ _) c.if-kind-ne-MAP.false) _ _ _ _ (c.parse_type-first.ensures _) c.in_ok-key.was) _ _ _ _ _ (c.expect.ensures _ _) c.in_err-value.was c.from_residual-in_err-value.ensures _ _
+pub parse_type-returns-in_default : goal.parse_type-returns-in_default
+parse_type-returns-in_default t c = halts _ E.UnexpectedEOF c.error.ensures (begins (type_absent _ _ _ _ _ _ _ (not_ahead _ c.in_default.not-Some)))
 
-pub parse_contained-parse_type-requires : goal.parse_contained-parse_type-requires
-parse_contained-parse_type-requires t c = (omega arith, c.requires)
+pub parse_type-returns-in-Some-leaf_type : goal.parse_type-returns-in-Some-leaf_type
+parse_type-returns-in-Some-leaf_type t c =
+    let a = c.in-Some.is in
+    last c.put_leaf.ensures
+    (kept c.advance.ensures _ (begins (type_alone _ _ _ _ _ _ _ (some_ahead _ a) (record_some leaf_type a c.leaf_type.ensures c.in-Some-leaf_type.is) (number_some _))))
 
-pub parse_contained-returns : goal.parse_contained-returns
-parse_contained-returns t c = λ u. last _ _ _ _ _ (on _ _ _ (on _ _ _ (yes _ _ _ _ _ (contained_is _ _ _ _ _ _) c.if-kind-ne-MAP.false) _ _ _ _ (c.parse_type-first.ensures _) c.in_ok-key.was) _ _ _ _ (c.expect.ensures _ _) c.in_ok-value.was) (c.parse_type.ensures _)
-
-pub parse_type-take-requires : goal.parse_type-take-requires
-parse_type-take-requires t c = c.requires
-
-pub parse_type-returns-in_err-state : goal.parse_type-returns-in_err-state
-parse_type-returns-in_err-state t c = λ u. off _ _ _ (type_is _ _ _ _ _ _ _ refl refl) _ _ _ _ _ (c.take.ensures _ _) c.in_err-state.was c.from_residual.ensures _ _
-
-pub parse_type-returns-then-leaf-ne0 : goal.parse_type-returns-then-leaf-ne0
-parse_type-returns-then-leaf-ne0 t c = λ u. ends _ _ _ _ _ (no _ _ _ _ _ (on _ _ _ (type_is _ _ _ _ _ _ _ c.leaf_type-leaf.ensures refl) _ _ _ _ (c.take.ensures _ _) c.in_ok-state.was) c.if-leaf-ne0.true) (c.put_leaf.ensures _)
-
-pub parse_type-returns-then-container-eq0 : goal.parse_type-returns-then-container-eq0
-parse_type-returns-then-container-eq0 t c = λ u. fails _ _ _ _ _ _ (yes _ _ _ _ _ (yes _ _ _ _ _ (on _ _ _ (type_is _ _ _ _ _ _ _ c.leaf_type-leaf.ensures c.container_type-container.ensures) _ _ _ _ (c.take.ensures _ _) c.in_ok-state.was) c.if-leaf-ne0.false) c.if-container-eq0.true) (c.refuse.ensures _ _)
+pub parse_type-returns-in_default-container_type : goal.parse_type-returns-in_default-container_type
+parse_type-returns-in_default-container_type t c =
+    let a = c.in-Some.is in
+    let l = record_none leaf_type a c.leaf_type.ensures c.in_default-leaf_type.is in
+    let k = record_none container_type a c.container_type.ensures c.in_default-container_type.is in
+    halts _ E.UnsupportedType c.error-in_default-container_type.ensures (begins (type_unknown _ _ _ _ _ _ _ (some_ahead _ a) l k))
 
 pub parse_type-returns-then-depth-eq0 : goal.parse_type-returns-then-depth-eq0
-parse_type-returns-then-depth-eq0 t c = λ u. fails _ _ _ _ _ _ (yes _ _ _ _ _ (no _ _ _ _ _ (yes _ _ _ _ _ (on _ _ _ (type_is _ _ _ _ _ _ _ c.leaf_type-leaf.ensures c.container_type-container.ensures) _ _ _ _ (c.take.ensures _ _) c.in_ok-state.was) c.if-leaf-ne0.false) c.if-container-eq0.false) c.if-depth-eq0.true) (c.refuse-then-depth-eq0.ensures _ _)
-
-pub parse_type-parse_complex_type-requires : goal.parse_type-parse_complex_type-requires
-parse_type-parse_complex_type-requires t c = (omega (arith, c.if-depth-eq0.false), c.requires)
+parse_type-returns-then-depth-eq0 t c =
+    let a = c.in-Some.is in
+    let l = record_none leaf_type a c.leaf_type.ensures c.in_default-leaf_type.is in
+    let k = record_some container_type a c.container_type.ensures c.in-Some-container_type.is in
+    halts _ E.TooDeep c.error-then-depth-eq0.ensures
+    (begins (type_deep _ _ _ _ _ _ _ (some_ahead _ a) l k (number_some _) (eq-eqb _ _ c.if-depth-eq0.true)))
 
 pub parse_type-returns : goal.parse_type-returns
-parse_type-returns t c = λ u. last _ _ _ _ _ (no _ _ _ _ _ (no _ _ _ _ _ (yes _ _ _ _ _ (on _ _ _ (type_is _ _ _ _ _ _ _ c.leaf_type-leaf.ensures c.container_type-container.ensures) _ _ _ _ (c.take.ensures _ _) c.in_ok-state.was) c.if-leaf-ne0.false) c.if-container-eq0.false) c.if-depth-eq0.false) (c.parse_complex_type.ensures _)
+parse_type-returns t c =
+    let a = c.in-Some.is in
+    let l = record_none leaf_type a c.leaf_type.ensures c.in_default-leaf_type.is in
+    let k = record_some container_type a c.container_type.ensures c.in-Some-container_type.is in
+    last c.parse_complex_type.ensures
+    (kept c.advance-2.ensures _ (begins (type_inside _ _ _ _ _ _ _ (some_ahead _ a) l k (number_some _) (ne_eqb _ _ c.if-depth-eq0.false))))

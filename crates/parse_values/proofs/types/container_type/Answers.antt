@@ -1,20 +1,22 @@
 -- `parse_values::types::container_type` meets its contract.
-use borrow.Author.Tests.{eq-eqb, ne_eqb}
+use Rattle.token.specs.Code.{code}
+use Rattle.ast.specs.KindNumber.{number_or_none}
 use Rattle.parse_values.specs.Into.{container_type}
+use Rattle.parse_values.proofs.KindTests.{container_type_not}
 use Rattle.parse_values.proofs.types.container_type.Goals as goal
 
-pub returns-then-kind-eq-MAP : goal.returns-then-kind-eq-MAP
-unfolding container_type
-returns-then-kind-eq-MAP c = rw (eq-eqb _ _ c.if-kind-eq-MAP.true)
+pub returns-in-Map : goal.returns-in-Map
+unfolding number_or_none container_type code
+returns-in-Map c = rw c.in-Map.is
 
-pub returns-then-kind-eq-LIST : goal.returns-then-kind-eq-LIST
-unfolding container_type
-returns-then-kind-eq-LIST c = rw (ne_eqb _ _ c.if-kind-eq-MAP.false, eq-eqb _ _ c.if-kind-eq-LIST.true)
+pub returns-in-List : goal.returns-in-List
+unfolding number_or_none container_type code
+returns-in-List c = rw c.in-List.is
 
-pub returns-then-kind-eq-SET : goal.returns-then-kind-eq-SET
-unfolding container_type
-returns-then-kind-eq-SET c = rw (ne_eqb _ _ c.if-kind-eq-MAP.false, ne_eqb _ _ c.if-kind-eq-LIST.false, eq-eqb _ _ c.if-kind-eq-SET.true)
+pub returns-in-Set : goal.returns-in-Set
+unfolding number_or_none container_type code
+returns-in-Set c = rw c.in-Set.is
 
-pub returns-else-kind-eq-SET : goal.returns-else-kind-eq-SET
-unfolding container_type
-returns-else-kind-eq-SET c = rw (ne_eqb _ _ c.if-kind-eq-MAP.false, ne_eqb _ _ c.if-kind-eq-LIST.false, ne_eqb _ _ c.if-kind-eq-SET.false)
+pub returns-in_default : goal.returns-in_default
+unfolding number_or_none
+returns-in_default c = let n = c.in_default in container_type_not _ n.not-Map n.not-List n.not-Set

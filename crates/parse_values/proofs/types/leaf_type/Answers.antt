@@ -1,20 +1,21 @@
 -- `parse_values::types::leaf_type` meets its contract.
-use borrow.Author.Tests.{eq-eqb, ne_eqb, lt-ltb, le-ltb, le-leb, lt-leb}
+use Rattle.token.specs.Code.{code}
+use Rattle.ast.specs.KindNumber.{number_or_none}
+use Rattle.parser.proofs.KindLaws.{any_of, none_of, none_left}
 use Rattle.parse_values.specs.Into.{leaf_type}
+use Rattle.parse_values.proofs.KindTests.{words, leaf_type_word, leaf_type_not}
 use Rattle.parse_values.proofs.types.leaf_type.Goals as goal
 
-pub returns-then-kind-lt-BOOL : goal.returns-then-kind-lt-BOOL
-unfolding leaf_type
-returns-then-kind-lt-BOOL c = rw (lt-ltb _ _ c.if-kind-lt-BOOL.true)
+pub returns-in-Bool : goal.returns-in-Bool
+unfolding number_or_none
+returns-in-Bool c = leaf_type_word _ (any_of _ words c.in-Bool.is)
 
-pub returns-then-kind-le-BINARY : goal.returns-then-kind-le-BINARY
-unfolding leaf_type
-returns-then-kind-le-BINARY c = rw (le-ltb _ _ c.if-kind-lt-BOOL.false, le-leb _ _ c.if-kind-le-BINARY.true)
+pub returns-in-Identifier : goal.returns-in-Identifier
+unfolding number_or_none leaf_type code
+returns-in-Identifier c = rw c.in-Identifier.is
 
-pub returns-then-kind-eq-IDENTIFIER : goal.returns-then-kind-eq-IDENTIFIER
-unfolding leaf_type
-returns-then-kind-eq-IDENTIFIER c = rw (le-ltb _ _ c.if-kind-lt-BOOL.false, lt-leb _ _ c.if-kind-le-BINARY.false, eq-eqb _ _ c.if-kind-eq-IDENTIFIER.true)
-
-pub returns-else-kind-eq-IDENTIFIER : goal.returns-else-kind-eq-IDENTIFIER
-unfolding leaf_type
-returns-else-kind-eq-IDENTIFIER c = rw (le-ltb _ _ c.if-kind-lt-BOOL.false, lt-leb _ _ c.if-kind-le-BINARY.false, ne_eqb _ _ c.if-kind-eq-IDENTIFIER.false)
+pub returns-in_default : goal.returns-in_default
+unfolding number_or_none
+returns-in_default c =
+    let n = c.in_default in
+    leaf_type_not _ (none_of _ n.not-Binary (none_of _ n.not-String (none_of _ n.not-Byte (none_of _ n.not-I8 (none_of _ n.not-I16 (none_of _ n.not-I32 (none_of _ n.not-I64 (none_of _ n.not-Double (none_of _ n.not-Bool (none_of _ n.not-Identifier (none_left _)))))))))))

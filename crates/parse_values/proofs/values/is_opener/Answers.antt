@@ -1,12 +1,11 @@
 -- `parse_values::values::is_opener` meets its contract.
-use borrow.Author.Tests.{eq-eqb, ne_eqb}
-use Rattle.parse_values.specs.Into.{is_opener}
+use Rattle.parser.specs.Values.{openers}
+use Rattle.parser.proofs.KindLaws.{any_of}
+use Rattle.parse_values.proofs.KindTests.{opener_is, opener_not}
 use Rattle.parse_values.proofs.values.is_opener.Goals as goal
 
-pub returns-then-kind-eq-LEFT_BRACE : goal.returns-then-kind-eq-LEFT_BRACE
-unfolding is_opener
-returns-then-kind-eq-LEFT_BRACE c = rw (eq-eqb _ _ c.if-kind-eq-LEFT_BRACE.true)
+pub returns-in-LeftBracket : goal.returns-in-LeftBracket
+returns-in-LeftBracket c = opener_is _ (any_of _ openers c.in-LeftBracket.is)
 
-pub returns : goal.returns
-unfolding is_opener
-returns c = rw (ne_eqb _ _ c.if-kind-eq-LEFT_BRACE.false)
+pub returns-in_default : goal.returns-in_default
+returns-in_default c = let n = c.in_default in opener_not _ n.not-LeftBracket n.not-LeftBrace

@@ -1,59 +1,37 @@
 -- `parse_values::values::leaf_value` meets its contract.
-use borrow.Author.Tests.{eq-eqb, ne_eqb}
+use Rattle.token.specs.Code.{code}
+use Rattle.ast.specs.KindNumber.{number_or_none}
+use Rattle.parser.proofs.KindLaws.{none_of, none_left}
 use Rattle.parse_values.specs.Into.{leaf_value}
+use Rattle.parse_values.proofs.KindTests.{leaf_value_not}
 use Rattle.parse_values.proofs.values.leaf_value.Goals as goal
 
-pub returns-then-kind-eq-IDENTIFIER : goal.returns-then-kind-eq-IDENTIFIER
-unfolding leaf_value
-returns-then-kind-eq-IDENTIFIER c = rw (eq-eqb _ _ c.if-kind-eq-IDENTIFIER.true)
+pub returns-in-Identifier : goal.returns-in-Identifier
+unfolding number_or_none leaf_value code
+returns-in-Identifier c = rw c.in-Identifier.is
 
-pub returns-then-kind-eq-STRING_LITERAL : goal.returns-then-kind-eq-STRING_LITERAL
-unfolding leaf_value
-returns-then-kind-eq-STRING_LITERAL c =
-    let a = c.if-kind-eq-IDENTIFIER.false in
-    rw (ne_eqb _ _ a, eq-eqb _ _ c.if-kind-eq-STRING_LITERAL.true)
+pub returns-in-StringLiteral : goal.returns-in-StringLiteral
+unfolding number_or_none leaf_value code
+returns-in-StringLiteral c = rw c.in-StringLiteral.is
 
-pub returns-then-kind-eq-DOUBLE_LITERAL : goal.returns-then-kind-eq-DOUBLE_LITERAL
-unfolding leaf_value
-returns-then-kind-eq-DOUBLE_LITERAL c =
-    let a = c.if-kind-eq-IDENTIFIER.false in
-    let b = c.if-kind-eq-STRING_LITERAL.false in
-    rw (ne_eqb _ _ a, ne_eqb _ _ b, eq-eqb _ _ c.if-kind-eq-DOUBLE_LITERAL.true)
+pub returns-in-DoubleLiteral : goal.returns-in-DoubleLiteral
+unfolding number_or_none leaf_value code
+returns-in-DoubleLiteral c = rw c.in-DoubleLiteral.is
 
-pub returns-then-kind-eq-HEX_LITERAL : goal.returns-then-kind-eq-HEX_LITERAL
-unfolding leaf_value
-returns-then-kind-eq-HEX_LITERAL c =
-    let a = c.if-kind-eq-IDENTIFIER.false in
-    let b = c.if-kind-eq-STRING_LITERAL.false in
-    let d = c.if-kind-eq-DOUBLE_LITERAL.false in
-    rw (ne_eqb _ _ a, ne_eqb _ _ b, ne_eqb _ _ d, eq-eqb _ _ c.if-kind-eq-HEX_LITERAL.true)
+pub returns-in-HexLiteral : goal.returns-in-HexLiteral
+unfolding number_or_none leaf_value code
+returns-in-HexLiteral c = rw c.in-HexLiteral.is
 
-pub returns-then-kind-eq-INTEGER_LITERAL : goal.returns-then-kind-eq-INTEGER_LITERAL
-unfolding leaf_value
-returns-then-kind-eq-INTEGER_LITERAL c =
-    let a = c.if-kind-eq-IDENTIFIER.false in
-    let b = c.if-kind-eq-STRING_LITERAL.false in
-    let d = c.if-kind-eq-DOUBLE_LITERAL.false in
-    let e = c.if-kind-eq-HEX_LITERAL.false in
-    rw (ne_eqb _ _ a, ne_eqb _ _ b, ne_eqb _ _ d, ne_eqb _ _ e, eq-eqb _ _ c.if-kind-eq-INTEGER_LITERAL.true)
+pub returns-in-IntegerLiteral : goal.returns-in-IntegerLiteral
+unfolding number_or_none leaf_value code
+returns-in-IntegerLiteral c = rw c.in-IntegerLiteral.is
 
-pub returns-then-kind-eq-BOOLEAN_LITERAL : goal.returns-then-kind-eq-BOOLEAN_LITERAL
-unfolding leaf_value
-returns-then-kind-eq-BOOLEAN_LITERAL c =
-    let a = c.if-kind-eq-IDENTIFIER.false in
-    let b = c.if-kind-eq-STRING_LITERAL.false in
-    let d = c.if-kind-eq-DOUBLE_LITERAL.false in
-    let e = c.if-kind-eq-HEX_LITERAL.false in
-    let f = c.if-kind-eq-INTEGER_LITERAL.false in
-    rw (ne_eqb _ _ a, ne_eqb _ _ b, ne_eqb _ _ d, ne_eqb _ _ e, ne_eqb _ _ f, eq-eqb _ _ c.if-kind-eq-BOOLEAN_LITERAL.true)
+pub returns-in-BooleanLiteral : goal.returns-in-BooleanLiteral
+unfolding number_or_none leaf_value code
+returns-in-BooleanLiteral c = rw c.in-BooleanLiteral.is
 
-pub returns-else-kind-eq-BOOLEAN_LITERAL : goal.returns-else-kind-eq-BOOLEAN_LITERAL
-unfolding leaf_value
-returns-else-kind-eq-BOOLEAN_LITERAL c =
-    let a = c.if-kind-eq-IDENTIFIER.false in
-    let b = c.if-kind-eq-STRING_LITERAL.false in
-    let d = c.if-kind-eq-DOUBLE_LITERAL.false in
-    let e = c.if-kind-eq-HEX_LITERAL.false in
-    let f = c.if-kind-eq-INTEGER_LITERAL.false in
-    let g = c.if-kind-eq-BOOLEAN_LITERAL.false in
-    rw (ne_eqb _ _ a, ne_eqb _ _ b, ne_eqb _ _ d, ne_eqb _ _ e, ne_eqb _ _ f, ne_eqb _ _ g)
+pub returns-in_default : goal.returns-in_default
+unfolding number_or_none
+returns-in_default c =
+    let n = c.in_default in
+    leaf_value_not _ (none_of _ n.not-StringLiteral (none_of _ n.not-IntegerLiteral (none_of _ n.not-DoubleLiteral (none_of _ n.not-BooleanLiteral (none_of _ n.not-HexLiteral (none_of _ n.not-Identifier (none_left _)))))))

@@ -1,12 +1,12 @@
 -- `steps::state::State::start` meets its contract.
-use borrow.Author.Tests.{eq-eqb, ne_eqb}
 use Rattle.steps.specs.Into.{start_at}
+use Rattle.steps.proofs.AheadTests.{some_ahead, none_ahead}
 use Rattle.steps.proofs.state.State.start.Goals as goal
 
-pub returns-then-self-eq-NONE : goal.returns-then-self-eq-NONE
+pub returns-in-Some : goal.returns-in-Some
 unfolding start_at
-returns-then-self-eq-NONE c = rw (eq-eqb _ _ c.if-self-eq-NONE.true)
+returns-in-Some c = rw (some_ahead _ c.in-Some.is)
 
-pub returns-else-self-eq-NONE : goal.returns-else-self-eq-NONE
+pub returns-in-None : goal.returns-in-None
 unfolding start_at
-returns-else-self-eq-NONE c = rw (ne_eqb _ _ c.if-self-eq-NONE.false)
+returns-in-None c = rw (none_ahead _ c.in-None.is)

@@ -1,0 +1,14 @@
+-- `steps::state::Parser::skip` meets its contract.
+use Rattle.steps.specs.Into.{skip_in, bytes_left}
+use Rattle.steps.proofs.Chain.{Left}
+use Rattle.steps.proofs.state.Parser.skip.Given as goal
+
+-- The invariant: from here the loop does what it does from the start. The measure is the bytes left.
+abbrev pub invariant-loop-self : goal.invariant-loop-self
+invariant-loop-self l =
+    let s = l.fn.self in
+    let t = l.self in
+    Left (skip_in s.text.now l.separators s.state s.nodes.now s.comments.now) s (skip_in s.text.now l.separators t.state t.nodes.now t.comments.now) t
+
+abbrev pub decreases-loop-self : goal.decreases-loop-self
+decreases-loop-self l = bytes_left l.self.text.now l.self.state

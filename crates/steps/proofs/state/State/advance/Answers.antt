@@ -1,7 +1,0 @@
--- `steps::state::State::advance` meets its contract.
-use Rattle.steps.specs.Into.{advanced}
-use Rattle.steps.proofs.state.State.advance.Goals as goal
-
-pub returns : goal.returns
-unfolding advanced
-returns c = rw (c.ahead.ensures, c.look-found.ensures)
