@@ -7,3 +7,4 @@ pub mod MovedRows
 pub mod KindLaws
 pub mod Largest
 pub mod ClearLaws
+pub mod LaidLaws

@@ -9,3 +9,4 @@ pub mod Column
 pub mod Move
 pub mod KindNumber
 pub mod Clear
+pub mod Laid

@@ -40,14 +40,14 @@ pub enum Kind {
     BlockComment = 33,
 }
 
-impl Kind {
+// The papers' number.
+impl From<Kind> for u32 {
     ghost use Rattle.ast.specs.KindNumber.{number_of};
 
-    // The papers' number.
-    pub fn number(self) -> u32
-        ensures { result ≡ number_of self }
-    {
-        self as u32
+    ghost from_gives = { λ kind number. number ≡ number_of kind };
+
+    fn from(kind: Kind) -> u32 {
+        kind as u32
     }
 }
 

@@ -5,8 +5,9 @@ pub mod column;
 pub mod flag;
 pub mod kind;
 
-ghost use Rattle.std.specs.Prelude.{◌≡◌, ◌≤◌, length};
+ghost use Rattle.std.specs.Prelude.{◌≡◌, ◌≤◌, ◌-◌, ◌++◌, length, take, replicate};
 ghost use Rattle.ast.specs.Clear.{Cleared};
+ghost use Rattle.ast.specs.Laid.{laid_with};
 ghost use Rattle.ast.specs.Largest.{bump};
 
 // The numbers of a comment record, and of a node record.
@@ -17,9 +18,6 @@ pub const NODE_WIDTH: usize = 10;
 // The parent of a definition, and of what lies behind the last record.
 pub const NO_PARENT: u32 = 4294967295;
 
-// The largest number of a record.
-pub const LARGEST: u32 = 4294967295;
-
 // One more of a count, which never passes it.
 pub fn bump(n: u32) -> u32
     ensures { result ≡ bump n }
@@ -27,13 +25,29 @@ pub fn bump(n: u32) -> u32
     n.saturating_add(1)
 }
 
+// A list's values become the same one from an index on. std's `fill` asks that a clone succeed, and promises of clones.
+fn fill<T: Copy>(list: &mut [T], from: usize, value: T)
+    requires { from ≤ length list.old }
+    ensures { list.new ≡ take from list.old ++ replicate (length list.old - from) value }
+{
+    for slot in &mut list[from..] {
+        *slot = value;
+    }
+}
+
 // A list's values become the default one from an index on.
 pub fn clear<T: Copy + Default>(list: &mut [T], from: usize)
     requires { from ≤ length list.old }
     ensures { Cleared T.is_default from list.old list.new }
 {
-    let value = T::default();
-    for slot in &mut list[from..] {
-        *slot = value;
-    }
+    fill(list, from, T::default());
+}
+
+// Values at the front of a list, as many as it holds, and `rest` behind them.
+pub fn lay<T: Copy>(list: &mut [T], values: &[T], rest: T)
+    ensures { list.new ≡ laid_with rest values.now list.old }
+{
+    let end = values.len().min(list.len());
+    list[..end].copy_from_slice(&values[..end]);
+    fill(list, end, rest);
 }

@@ -1,17 +1,14 @@
 -- Bytes that are copied into the output, and parts of the text.
---     number_in                          a number of a record
---     in_record                          a number of a record, read from the record
---     kind_in_law, kind_past             a node record's kind, and none behind the last record; parent_in, parent_past: a record's parent
+--     number_in, number_there            a number of a record; kind_there, parent_there: a record's kind and parent
 --     copy_step, copy_done               a copy, byte by byte
 --     put_in, put_past                   bytes that the output holds, and bytes that it does not
 --     part_none, part_in                 a part that does not lie in the text, and one that does
 --     comments_nothing                   no comments
 --     token_is, comment_is               a token and a comment, by the part that was read
-use mathlib.Core.Path.{◌≡◌, refl, sym, ◌∙◌}
+use mathlib.Core.Path.{◌≡◌, refl, sym, ap, ◌∙◌}
 use mathlib.Core.Logic.{◌⊎◌, inl, inr}
 use mathlib.Core.List.{List, ◌++◌, append-nil}
-use Prim.Native.Nat.{ℕ, zero, suc, ◌+◌, ◌*◌, ◌-◌, ◌/◌, ◌≤◌, ◌<◌}
-use native.Mathlib.Nat.{le-div_iff_mul-le, div-lt_iff_lt-mul}
+use Prim.Native.Nat.{ℕ, zero, suc, ◌+◌, ◌-◌, ◌≤◌, ◌<◌}
 use native.Mathlib.Omega.{arith}
 use mathlib.Core.Bool.{Bool, true, false, cond}
 use lib.Dec.{ltb}
@@ -19,55 +16,33 @@ use borrow.Author.Tests.{ne_eqb, lt-ltb, le-ltb, le-leb, lt-leb}
 use lib.ListN.{length, take, drop, set, get_or, length-drop, drop_of_length-le}
 use lib.Seq.{take_all, take-suc, drop-cons, drop-drop, set_at, append_snoc, length-take-le}
 use borrow.Rule.Slice.PartMut.{put_mid}
-use Rattle.std.specs.List.{slice_range}
-use Rattle.std.proofs.lemmas.List.{get_or-take, get_or-drop}
 use Rattle.ast.specs.Column as C
 use Rattle.ast.specs.Records.{comment_width, node_width, no_parent, room}
+use Rattle.records.specs.Table as V
+use Rattle.records.specs.Table.{own_at}
 use Rattle.cursor.specs.declared.Cursor.{Cursor}
 use Rattle.cursor.specs.Onto.{Reached, reached, then, ◌⨟◌, number_at, kind_at, parent_at, pass_node, pass_comment, put_out, say_out, part_out, token_out, spaces_out, comment_out, comments_from, comments_out}
 
--- ---- number_at and part_at
+-- ---- what the view of the tables gives, by this crate's definitions
 
-module _ (w : ℕ) (t : List ℕ) (r k : ℕ) (h : k < w) where
-  pub number_in : get_or t (r * w + k) 0 ≡ number_at w t r k
-  unfolding number_at
-  number_in = rw (lt-leb w k h)
+module _ (w : ℕ) (t : List ℕ) (r : ℕ) where
+  -- a number that each record has
+  pub number_in : (k : ℕ) → k < w → V.number_at w t r k ≡ number_at w t r k
+  unfolding number_at V.number_at
+  number_in k h = rw (lt-leb w k h)
 
--- a number of a record that the table holds
-pub in_record : (w : ℕ) (t : List ℕ) (r k : ℕ) {s : List ℕ} → k < w → s ≡ slice_range t (r * w) (r * w + w) → get_or s k 0 ≡ get_or t (r * w + k) 0
-in_record w t r k h e =
-    let n : k < r * w + w - r * w = omega (arith, h) in
-    rw e (get_or-take (r * w + w - r * w) (drop (r * w) t) k 0 n ∙ get_or-drop (r * w) t k 0)
+  -- a number that a record may have
+  pub number_there : (k : ℕ) → own_at w t r k ≡ number_at w t r k
+  unfolding number_at own_at V.number_at
+  number_there k = refl
 
--- ---- kind and parent_at
+  pub parent_there : C.Parent < w → V.parent_at w t (room w t) r ≡ parent_at w t (room w t) r
+  unfolding parent_at V.parent_at
+  parent_there h = ap (λ (n : ℕ). cond (ltb r (room w t)) n no_parent) (number_in C.Parent h)
 
--- whether a table holds record r
-module _ {w : ℕ} (t : List ℕ) (r : ℕ) (h : 0 < w) where
-  held : r * w + w ≤ length t → ltb r (room w t) ≡ true
-  unfolding room
-  held l = let g : suc r ≤ length t / w = (le-div_iff_mul-le {k = w} {x = suc r} {y = length t} h).1 (omega arith) in lt-ltb r (length t / w) (omega arith)
-
-  not_held : length t < r * w + w → ltb r (room w t) ≡ false
-  unfolding room
-  not_held l = let g : length t / w < suc r = (div-lt_iff_lt-mul {k = w} {x = length t} {y = suc r} h).1 (omega arith) in le-ltb r (length t / w) (omega arith)
-
-module _ (t : List ℕ) (r : ℕ) where
-  pub kind_in_law : r * node_width + node_width ≤ length t → get_or t (r * node_width + 0) 0 ≡ kind_at t (room node_width t) r
-  unfolding kind_at node_width
-  kind_in_law l = rw (held t r (omega arith) l) (number_in node_width t r 0 (omega arith))
-
-  pub kind_past : length t < r * node_width + node_width → 0 ≡ kind_at t (room node_width t) r
-  unfolding kind_at node_width
-  kind_past l = rw (not_held t r (omega arith) l)
-
-module _ (w : ℕ) (t : List ℕ) (r : ℕ) (h : C.Parent < w) where
-  pub parent_in : r * w + w ≤ length t → get_or t (r * w + C.Parent) 0 ≡ parent_at w t (room w t) r
-  unfolding parent_at
-  parent_in l = rw (held t r (omega arith) l) (number_in w t r C.Parent h)
-
-  pub parent_past : length t < r * w + w → no_parent ≡ parent_at w t (room w t) r
-  unfolding parent_at
-  parent_past l = rw (not_held t r (omega arith) l)
+pub kind_there : (t : List ℕ) (r : ℕ) → V.kind_at t (room node_width t) r ≡ kind_at t (room node_width t) r
+unfolding kind_at V.kind_at node_width
+kind_there t r = ap (λ (n : ℕ). cond (ltb r (room node_width t)) n 0) (number_in node_width t r 0 (omega arith))
 
 -- ---- copy
 

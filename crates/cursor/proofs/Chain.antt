@@ -8,16 +8,17 @@
 --     yes, no, less, more       a test of two numbers
 --     when, unless              a test, by what decides it
 --     counted, turn, over       a loop of so many turns: before it, at a turn, behind it
---     owned, parented, kinded, numbered    what a writer reads of its tables
+--     tested, parented          what a writer reads of its tables and of where it stands
 use mathlib.Core.Path.{◌≡◌, refl, sym, ap, ◌∙◌}
 use mathlib.Core.Bool.{Bool, true, false, cond}
 use Prim.Native.Nat.{ℕ, suc, ◌+◌, ◌-◌, ◌<◌, ◌≤◌}
 use native.Mathlib.Omega.{arith}
 use lib.Dec.{eqb, ltb}
 use borrow.Author.Tests.{eq-eqb, ne_eqb, lt-ltb, le-ltb}
-use Rattle.ast.specs.Records.{comment_width, node_width}
+use Rattle.ast.specs.Records.{node_width}
+use Rattle.cursor.specs.declared.Cursor.{Cursor}
 use Rattle.cursor.specs.declared.Writer.{Writer}
-use Rattle.cursor.specs.Onto.{Reached, reached, W, then, ◌⨟◌, number_at, kind_at, parent_at}
+use Rattle.cursor.specs.Onto.{Reached, reached, W, then, ◌⨟◌, parent_at}
 use Rattle.cursor.specs.Writes.{Source, source, Writes}
 
 -- X is what is left to make, from the writer t, and s is the writer that the function began with
@@ -103,14 +104,8 @@ module _ {Z : Reached} {s t : Writer} (m : ℕ → W) (i e : ℕ) where
 -- ---- reads
 
 module _ {Z X : Reached} {s t : Writer} (v : Left Z s X t) where
-  pub kinded : {b : Bool} (k : ℕ) → b ≡ eqb (kind_at (source t).nodes (source t).count t.at.node) k → b ≡ eqb (kind_at (source s).nodes (source s).count t.at.node) k
-  kinded {b} k e = e ∙ ap (λ (x : Source). eqb (kind_at x.nodes x.count t.at.node) k) v.same
-
-  pub owned : {r : ℕ} → r ≡ parent_at comment_width (source t).comments (source t).total t.at.comment → r ≡ parent_at comment_width (source s).comments (source s).total t.at.comment
-  owned {r} e = e ∙ ap (λ (x : Source). parent_at comment_width x.comments x.total t.at.comment) v.same
+  pub tested : {r : Bool} (b : Source → Cursor → Bool) → r ≡ b (source t) t.at → r ≡ b (source s) t.at
+  tested {r} b e = e ∙ ap (λ (x : Source). b x t.at) v.same
 
   pub parented : {r : ℕ} → r ≡ parent_at node_width (source t).nodes (source t).count t.at.node → r ≡ parent_at node_width (source s).nodes (source s).count t.at.node
   parented {r} e = e ∙ ap (λ (x : Source). parent_at node_width x.nodes x.count t.at.node) v.same
-
-  pub numbered : {r : ℕ} (k : ℕ) → r ≡ number_at node_width (source t).nodes t.at.node k → r ≡ number_at node_width (source s).nodes t.at.node k
-  numbered {r} k e = e ∙ ap (λ (x : Source). number_at node_width x.nodes t.at.node k) v.same

@@ -1,20 +1,12 @@
 -- The kind that a writer reads, beside the number in its table.
---     decoded                the kind that a number decodes to
 --     kind_is, kind_not      a kind that was read, and one that was not
 --     kind_arm, kind_past    an arm of a match over it, and an arm that was passed
 use mathlib.Core.Path.{◌≡◌, sym, ap, ◌∙◌}
 use Prim.Native.Nat.{ℕ}
-use Rattle.std.specs.Prelude.{Option, Some, Result, Ok, Err}
-use Rattle.std.specs.Result.{result_ok}
-use Rattle.ast.specs.KindNumber.{Decodes, number_of, kind_of}
+use Rattle.std.specs.Prelude.{Option, Some}
+use Rattle.ast.specs.KindNumber.{number_of, kind_of}
 use Rattle.ast.specs.declared.kind.Kind.{Kind}
-use Rattle.ast.specs.declared.kind.UnknownKind.{UnknownKind}
 use Rattle.ast.proofs.KindLaws.{kind_number, number_kind}
-
--- the kind that a number decodes to
-pub decoded : (n : ℕ) (r : Result Kind UnknownKind) → Decodes n r → result_ok r ≡ kind_of n
-decoded n (Ok k) e = sym e
-decoded n (Err u) e = sym e.0
 
 module _ (n : ℕ) (k : Kind) {r : Option Kind} (e : r ≡ kind_of n) where
   pub kind_is : r ≡ Some k → n ≡ number_of k

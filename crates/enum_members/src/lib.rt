@@ -127,7 +127,7 @@ impl Walker<'_> {
     }
 }
 
-// Nothing is left in the list.
+// Nothing is left in the list. Two lines, as `move_tables` has them and `reader` of its tables; what each means is said in its own terms.
 #[tactic(auto, using(crate::proofs::WalkLaws::wipe_all), unfolding(lexer::specs::Refusal::said_by, crate::specs::Walk::refusing))]
 fn refuse(refusal: Refusal, list: &mut [i32]) -> Result<u32, Refusal>
     ensures { told result list.new ≡ refusing (number_of refusal.kind) refusal.place refusal.length list.old }
@@ -151,12 +151,7 @@ fn finish(turn: Result<(), Part>, walk: Walk, list: &mut [i32]) -> Result<u32, R
             refuse(refusal, list)
         }
         Ok(()) if list.len() < walk.members as usize => {
-            let refusal = Refusal {
-                kind: ErrorKind::NodesFull,
-                place: 0,
-                length: 0,
-            };
-            refuse(refusal, list)
+            refuse(Refusal::at(ErrorKind::NodesFull, 0), list)
         }
         Ok(()) => {
             ast::clear(list, walk.members as usize);
@@ -165,7 +160,7 @@ fn finish(turn: Result<(), Part>, walk: Walk, list: &mut [i32]) -> Result<u32, R
     }
 }
 
-// Numbers the members of every enum of a text, from its node table: so many records. Answers how many members there are.
+// Numbers the members of every enum of a text, from its node table: so many records, the table may be longer. Answers how many members there are.
 // On any table it walks as `definitions_in` says; on the table of a text's definitions it answers with their numbers.
 pub fn number_members(
     text: &[u8],

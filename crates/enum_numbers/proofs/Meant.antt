@@ -1,5 +1,6 @@
 -- What the code does is the numbering of the text.
---     refused_means     the reading refused the text
+--     refuses, handed   nothing is left; what is lent, by the names that it was lent under
+--     refused_means     the reading refused the text, and a `?` hands that on
 --     accepted_means    the reading accepted it, and its members were numbered
 use mathlib.Core.Path.{◌≡◌, sym, ap, ◌∙◌}
 use mathlib.Core.List.{List, [], ◌∷◌}
@@ -21,8 +22,21 @@ use Rattle.lexer.specs.Refusal.{number_of, said_by}
 use Rattle.lexer.specs.declared.error.Refusal.{Refusal}
 use Rattle.enum_members.specs.Numbers as E
 use Rattle.enum_members.specs.Numbers.{member_numbers, counted, numbers_of, listed, Listing, listing}
-use Rattle.enum_numbers.specs.Numbering.{numbers_by, numbering}
+use Rattle.enum_members.proofs.WalkLaws.{wipe_all}
+use Rattle.reader.specs.declared.Lent.{Lent}
+use Rattle.reader.specs.Refuses.{Refuses}
+use Rattle.std.specs.Result.{IsErr, IsErrAnd}
+use Rattle.std.proofs.lemmas.Result.{err_from_is_err_and}
+use Rattle.enum_numbers.specs.Numbering.{Numbering, told, numbers_by, numbering}
 use Rattle.enum_numbers.specs.Whole.{refusing, judged}
+
+pub refuses : {s t : Lent ℤ} {r : Result ℕ Refusal} {f : Refusal} → Refuses (λ x. x ≡ pos 0) f s t r
+    → told r t.nodes.now t.comments.now t.out.now ≡ judged (Err f) s.nodes.now s.comments.now s.out.now
+unfolding judged refusing said_by
+refuses w = rw (w.says, w.nodes, w.comments, wipe_all w.out.0 _ _ w.out.1 w.out.2)
+
+pub handed : (X : Numbering) (r : Result ℕ Refusal) (t t' u u' : List ℕ) (o o' : List ℤ) → told r t u o ≡ X → t' ≡ t → u' ≡ u → o' ≡ o → told r t' u' o' ≡ X
+handed X r t t' u u' o o' e h k l = rw (h, k, l) e
 
 list_twice : (l : List ℤ) → E.cleared (E.cleared l) ≡ E.cleared l
 unfolding E.cleared
@@ -49,11 +63,13 @@ module _ (t ns cs : List ℕ) (list : List ℤ) where
       rw (cleared_same ns ns₁ q.long, cleared_same cs cs₁ q.broad, y, list_twice list) (given q.ds q.found q.answers (refused (number_of r.kind) r.place r.length) x)
 
   module _ (a : Answer) (ns₁ cs₁ : List ℕ) (r : read_told a ns₁ cs₁ ≡ reading t ns cs) where
-    pub refused_means : (f : Refusal) → a ≡ Err f → refusing (number_of f.kind) f.place f.length ns₁ cs₁ list ≡ numbering t ns cs list
-    unfolding refusing numbering after left listed
-    refused_means f h =
+    pub refused_means : (f : Refusal) → a ≡ Err f → (m : Result ℕ Refusal) → IsErr m × IsErrAnd m (λ z. z ≡ f) → judged m ns₁ cs₁ list ≡ numbering t ns cs list
+    unfolding judged refusing numbering after left listed
+    refused_means f h m g =
+        let p = err_from_is_err_and m g.1 in
+        let e : m ≡ Err f = cc in
         let q = read_refused t ns cs a ns₁ cs₁ r h in
-        rw (q.answers, q.nodes, q.comments, cleared_twice ns, cleared_twice cs)
+        rw (e, q.answers, q.nodes, q.comments, cleared_twice ns, cleared_twice cs)
 
     pub accepted_means : (k : Counts) → a ≡ Ok k → (m : Result ℕ Refusal) (list₁ : List ℤ) →
         ((ds : List Definition) → File t ns₁ k.nodes ds → E.told m list₁ ≡ listing (member_numbers ds) list) → judged m ns₁ cs₁ list₁ ≡ numbering t ns cs list

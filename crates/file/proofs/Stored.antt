@@ -1,12 +1,14 @@
 -- What the code of a call leaves in memory, and the turns of a run.
 --     take_min, drop_min                    so many of a slice, or as many as there are
+--     handed                                the memory, by the names that it was lent under
 --     read_is                               a reading
 --     store_refused, store_long, store_in   what is made the file
---     lent_in, lent_long, written_in              the lent output after a printing; what an accepted printing wrote lies in it
+--     written_in                            what an accepted printing wrote lies in the output
 --     print_is                              a printing
---     call_reads, call_prints               one call
---     size_in, space_long                   after a call the file lies in its space, which is as long as it was
---     started, turned_in, turn, none_left   the start of a run, a turn, its end
+--     call_is                               one call
+--     space_long                            after a call the file's space is as long as it was
+--     begun, turned, over                   the start of a run, a turn, its end
+--     started                               a file is no longer than its space
 use mathlib.Core.Path.{◌≡◌, refl, sym, ap, ◌∙◌}
 use mathlib.Core.Bool.{Bool, true, false, cond, not, false≢true}
 use mathlib.Core.List.{List, [], ◌∷◌, ◌++◌}
@@ -15,11 +17,11 @@ use native.Mathlib.Omega.{arith}
 use lib.Dec.{eqb, leb, ltb}
 use borrow.Author.Tests.{leb-true, leb-false, le-leb, lt-leb}
 use lib.ListN.{length, take, drop, get_or, replicate, length-append, length-take, length-replicate, drop_of_length-le}
-use lib.Seq.{take_all, take_at, length-take-le}
+use lib.Seq.{take_all, length-take-le}
+use Rattle.std.proofs.lemmas.List.{take-append-le}
 use Rattle.lexer.specs.Outcome.{Outcome, accepted, refused}
-use Rattle.ast.specs.Clear.{Cleared}
+use Rattle.ast.specs.Laid.{laid_with}
 use Rattle.ast.specs.Records.{comment_width, node_width, node_rows, notes, room}
-use Rattle.ast.proofs.ClearLaws.{cleared_by}
 use Rattle.parser.specs.Read.{Answer}
 use Rattle.ast.specs.Ast.{Definition}
 use Rattle.parser.specs.Read.{fitted, Reading, reading}
@@ -33,7 +35,11 @@ use Rattle.writer.specs.Write.{Printed}
 use Rattle.writer.specs.Write as W
 use Rattle.writer.specs.Write.{Printing, said, told, bytes_written, outcome_at, print_of, printing}
 use Rattle.demand.specs.Calls.{has_printed, gives}
+use Rattle.file.specs.declared.Request as R
+use Rattle.file.specs.declared.File as F
+use Rattle.reader.specs.declared.Lent.{Lent}
 use Rattle.file.specs.Run.{Request, ask, requests_of, File, file_of, Memory, memory, call_of, kept_in, settled, after, runs}
+use Rattle.file.specs.Calls.{asked, Asks, held, Leaves}
 
 -- ---- so many of a slice, or as many as there are
 
@@ -62,18 +68,27 @@ module _ (n : ℕ) (t : List ℕ) where
   pub drop_min : drop (min n (length t)) t ≡ drop n t
   drop_min = drop_by _ refl
 
--- ---- read_file
+-- ---- what a call was lent, by the names that it was lent under
 
-pub read_is : (text ns cs ns' cs' : List ℕ) (a b x y : ℕ) (r : Answer)
+pub handed : (m : Memory) {n : ℕ} {s s' ns ns' cs cs' out out' : List ℕ} → memory n s ns cs out ≡ m → s' ≡ s → ns' ≡ ns → cs' ≡ cs → out' ≡ out → memory n s' ns' cs' out' ≡ m
+handed m e h i j k = rw (h, i, j, k) e
+
+-- ---- read
+
+reads_is : (indent file : ℕ) (space ns cs out ns' cs' : List ℕ) (a b c : ℕ) → let w = reading (take file space) (take a ns) (take b cs) in
+    ns' ≡ w.nodes ++ drop a ns → cs' ≡ w.comments ++ drop b cs → memory file space ns' cs' out ≡ after indent (ask false a b c) (memory file space ns cs out)
+unfolding after settled call_of gives
+reads_is indent file space ns cs out ns' cs' a b c e f = rw (e, f)
+
+pub read_is : (indent file : ℕ) (space ns cs out ns' cs' : List ℕ) (a b c x y : ℕ) (r : Answer)
     → x ≡ min a (length ns) → y ≡ min b (length cs)
-    → read_told r ns' cs' ≡ reading text (take x ns) (take y cs)
-    → let w = reading text (take a ns) (take b cs) in
-    (ns' ++ drop x ns ≡ w.nodes ++ drop a ns) × (cs' ++ drop y cs ≡ w.comments ++ drop b cs)
-read_is text ns cs ns' cs' a b x y r k l e =
-    let q : read_told r ns' cs' ≡ reading text (take a ns) (take b cs) = e ∙ rw (k, l, take_min a ns, take_min b cs) in (
-      rw (k, drop_min a ns) (ap (λ (w : Reading). w.nodes ++ drop a ns) q),
-      rw (l, drop_min b cs) (ap (λ (w : Reading). w.comments ++ drop b cs) q),
-    )
+    → read_told r ns' cs' ≡ reading (take file space) (take x ns) (take y cs)
+    → memory file space (ns' ++ drop x ns) (cs' ++ drop y cs) out ≡ after indent (ask false a b c) (memory file space ns cs out)
+read_is indent file space ns cs out ns' cs' a b c x y r k l e =
+    let q : read_told r ns' cs' ≡ reading (take file space) (take a ns) (take b cs) = e ∙ rw (k, l, take_min a ns, take_min b cs) in
+    reads_is indent file space ns cs out _ _ a b c
+    (rw (k, drop_min a ns) (ap (λ (w : Reading). w.nodes ++ drop a ns) q))
+    (rw (l, drop_min b cs) (ap (λ (w : Reading). w.comments ++ drop b cs) q))
 
 -- ---- store
 
@@ -87,15 +102,15 @@ module _ (p : Printed) (out : List ℕ) (f : File) where
     unfolding kept_in said_by
     store_long l = rw (h, lt-leb q.bytes (length f.space) l)
 
-    pub store_in : (copied space' : List ℕ) → q.bytes ≤ length f.space → q.bytes ≤ length out → copied ≡ take q.bytes out ++ drop (length (take q.bytes out)) f.space
-        → length copied ≡ length f.space → Cleared (λ x. x ≡ 0) q.bytes copied space' → file_of q.bytes space' ≡ kept_in (said p) out f
-    unfolding kept_in said_by W.written
-    store_in copied space' l k e s w =
+    pub store_in : (space' : List ℕ) → q.bytes ≤ length f.space → q.bytes ≤ length out → space' ≡ laid_with 0 (take q.bytes out) f.space
+        → file_of q.bytes space' ≡ kept_in (said p) out f
+    unfolding kept_in said_by W.written laid_with
+    store_in space' l k e =
         let t : length (take q.bytes out) ≡ q.bytes = length-take-le q.bytes out k in
-        let u : take q.bytes copied ≡ take q.bytes out = ap (take q.bytes) e ∙ take_at (take q.bytes out) (drop (length (take q.bytes out)) f.space) q.bytes t in
-        rw (h, le-leb q.bytes (length f.space) l, cleared_by 0 q.bytes copied space' w, u, s, t)
+        let u : take (length f.space) (take q.bytes out) ≡ take q.bytes out = take_all (length f.space) (take q.bytes out) (omega (arith, t, l)) in
+        rw (h, le-leb q.bytes (length f.space) l, e, u, t)
 
--- ---- print_file
+-- ---- print
 
 is_accepted : Outcome (List ℕ) → Bool
 is_accepted (accepted ns) = true
@@ -132,84 +147,62 @@ printing_in : (t : List ℕ) (indent : ℕ) (ns cs out ks : List ℕ)
 unfolding printing
 printing_in t indent ns cs out ks h = says_in (outcome_at indent t) indent ns cs out ks h
 
-pub lent_in : (z n most : ℕ) → z ≡ min n most → z ≤ most
-lent_in z n most h = omega arith
+-- what an accepted printing wrote lies in what it was lent of the output
+module _ (t : List ℕ) (indent : ℕ) (ns cs out ns' cs' out' : List ℕ) (p : Printed) (e : told p ns' cs' out' ≡ printing t indent ns cs out) where
+  says_long : (ks : List ℕ) → said p ≡ accepted ks → bytes_written ks ≤ length out'
+  says_long ks h = rw (ap (λ (w : Printing). w.output) e) (printing_in t indent ns cs out ks (sym (ap (λ (w : Printing). w.says) e) ∙ h))
 
--- the lent output, as the printing leaves it
-module _ (out out' : List ℕ) (z : ℕ) (h : length out' ≡ length (take z out)) (k : z ≤ length out) where
-  lent_out : take z (out' ++ drop z out) ≡ out'
-  lent_out = take_at out' (drop z out) z (h ∙ length-take-le z out k)
-
-  pub lent_long : z ≡ length (take z (out' ++ drop z out))
-  lent_long = sym (ap (λ (w : List ℕ). length w) lent_out ∙ h ∙ length-take-le z out k)
-
-  pub written_in : (t : List ℕ) (indent : ℕ) (ns cs ns' cs' : List ℕ) (p : Printed)
-      → told p ns' cs' out' ≡ printing t indent ns cs (take z out)
-      → (b : Print) → p ≡ Ok b → b.bytes ≤ length (take z (out' ++ drop z out))
+  pub written_in : (rest : List ℕ) (b : Print) → p ≡ Ok b → b.bytes ≤ length (out' ++ rest)
   unfolding said_by
-  written_in t indent ns cs ns' cs' p e b q =
-      rw lent_out
-      (rw (ap (λ (w : Printing). w.output) e) (printing_in t indent ns cs (take z out) (b.nodes ∷ b.comments ∷ b.bytes ∷ []) (sym (ap (λ (w : Printing). w.says) e) ∙ ap said q)))
+  written_in rest b h =
+      let l : b.bytes ≤ length out' = says_long (b.nodes ∷ b.comments ∷ b.bytes ∷ []) (ap said h) in
+      omega (arith, l, length-append out' rest)
 
-pub print_is : (space space' ns ns' cs cs' out out' : List ℕ) (file indent a b c x y z r : ℕ) (p : Printed)
+-- what lies past it is not looked at
+kept_front : (a : Outcome (List ℕ)) (out rest : List ℕ) (f : File) → ((ks : List ℕ) → a ≡ accepted ks → bytes_written ks ≤ length out) → kept_in a (out ++ rest) f ≡ kept_in a out f
+unfolding kept_in
+kept_front (refused e p n) out rest f h = refl
+kept_front (accepted ns) out rest f h = rw (take-append-le (bytes_written ns) out rest (h ns refl))
+
+-- the memory with another file
+abbrev pub with_file : Memory → File → Memory
+with_file m f = record { file = f; nodes = m.nodes; comments = m.comments; output = m.output }
+
+pub print_is : (space ns ns' cs cs' out out' : List ℕ) (file indent a b c x y z : ℕ) (p : Printed)
     → x ≡ min a (length ns) → y ≡ min b (length cs) → z ≡ min c (length out)
-    → length out' ≡ length (take z out)
     → told p ns' cs' out' ≡ printing (take file space) indent (take x ns) (take y cs) (take z out)
-    → file_of r space' ≡ kept_in (said p) (take z (out' ++ drop z out)) (file_of file space)
-    → memory r space' (ns' ++ drop x ns) (cs' ++ drop y cs) (out' ++ drop z out)
-    ≡ after indent (ask true a b c) (memory file space ns cs out)
+    → (f : File) → f ≡ kept_in (said p) (out' ++ drop z out) (file_of file space)
+    → with_file (memory file space (ns' ++ drop x ns) (cs' ++ drop y cs) (out' ++ drop z out)) f ≡ after indent (ask true a b c) (memory file space ns cs out)
 unfolding after settled call_of gives
-print_is space space' ns ns' cs cs' out out' file indent a b c x y z r p i j k l e s =
+print_is space ns ns' cs cs' out out' file indent a b c x y z p i j k e f s =
     let q : told p ns' cs' out' ≡ printing (take file space) indent (take a ns) (take b cs) (take c out) =
     e ∙ rw (i, j, k, take_min a ns, take_min b cs, take_min c out) in
-    let f : file_of r space' ≡ kept_in (said p) out' (file_of file space) =
-    s ∙ ap (λ (o : List ℕ). kept_in (said p) o (file_of file space)) (lent_out out out' z l (omega arith)) in
-    ap (λ (g : File). record { file = g; nodes = ns' ++ drop x ns; comments = cs' ++ drop y cs; output = out' ++ drop z out }) f
+    ap (with_file (memory file space (ns' ++ drop x ns) (cs' ++ drop y cs) (out' ++ drop z out)))
+    (s ∙ kept_front (said p) out' (drop z out) (file_of file space) (says_long (take file space) indent (take x ns) (take y cs) (take z out) ns' cs' out' p e))
     ∙ rw (i, j, k, drop_min a ns, drop_min b cs, drop_min c out)
     (ap (λ (w : Printing). settled (ask true a b c) (has_printed w) (memory file space ns cs out)) q)
 
 -- ---- call
 
-module _ (indent a b c : ℕ) (file : ℕ) (space ns cs out : List ℕ) where
-  pub call_reads : (prints : Bool) (ns' cs' : List ℕ) → prints ≡ false
-      → let w = reading (take file space) (take a ns) (take b cs) in (ns' ≡ w.nodes ++ drop a ns) × (cs' ≡ w.comments ++ drop b cs)
-      → memory file space ns' cs' out ≡ after indent (ask prints a b c) (memory file space ns cs out)
-  unfolding after settled call_of gives
-  call_reads prints ns' cs' h e = rw (h, e.0, e.1)
+pub call_is : {s t : F.File} {k l : Lent ℕ} (indent : ℕ) (q : R.Request) (b : Bool) → q.prints ≡ b
+    → Leaves (after indent (ask b q.nodes q.comments q.out) (held s k)) s t k l → Leaves (after indent (asked q) (held s k)) s t k l
+call_is indent q b h e = rw h e
 
-  pub call_prints : (prints : Bool) (m : Memory) → prints ≡ true → m ≡ after indent (ask true a b c) (memory file space ns cs out)
-      → m ≡ after indent (ask prints a b c) (memory file space ns cs out)
-  call_prints prints m h e = rw h e
-
--- the file lies in its space, which stays as long as it is
+-- the space stays as long as it is
 written_long : (ns : List ℕ) (b : ℕ) (out s : List ℕ) → b ≤ length s → length (W.written (accepted ns) (take b out) s) ≡ length s
 unfolding W.written
 written_long ns b out s h = simp (length-append, length-replicate, length-take) (omega arith)
 
 module _ (f : File) where
-  size_by : (b : ℕ) (s : List ℕ) (x : Bool) → leb b (length f.space) ≡ x → f.size ≤ length f.space → (cond x (file_of b s) f).size ≤ length f.space
-  size_by b s true e h = leb-true _ _ e
-  size_by b s false e h = h
-
   space_by : (ns : List ℕ) (b : ℕ) (out : List ℕ) (x : Bool) → leb b (length f.space) ≡ x
       → length (cond x (file_of b (W.written (accepted ns) (take b out) f.space)) f).space ≡ length f.space
   space_by ns b out true e = written_long ns b out f.space (leb-true _ _ e)
   space_by ns b out false e = refl
 
-  kept_size : (a : Outcome (List ℕ)) (out : List ℕ) → f.size ≤ length f.space → (kept_in a out f).size ≤ length f.space
-  unfolding kept_in
-  kept_size (refused e p n) out h = h
-  kept_size (accepted ns) out h = size_by (bytes_written ns) _ _ refl h
-
   kept_space : (a : Outcome (List ℕ)) (out : List ℕ) → length (kept_in a out f).space ≡ length f.space
   unfolding kept_in
   kept_space (refused e p n) out = refl
   kept_space (accepted ns) out = space_by ns (bytes_written ns) out _ refl
-
-pub size_in : (indent : ℕ) (q : Request) (m : Memory) → m.file.size ≤ length m.file.space → (after indent q m).file.size ≤ length m.file.space
-unfolding after settled call_of gives
-size_in indent (ask true a b c) m h = kept_size m.file _ _ h
-size_in indent (ask false a b c) m h = h
 
 pub space_long : (indent : ℕ) (q : Request) (m : Memory) → length (after indent q m).file.space ≡ length m.file.space
 unfolding after settled call_of gives
@@ -235,16 +228,8 @@ few_left (k ∷ a ∷ []) h = refl
 few_left (k ∷ a ∷ b ∷ []) h = refl
 few_left (k ∷ a ∷ b ∷ c ∷ r) h = absurd (omega arith)
 
-pub started : (n file indent : ℕ) (r space ns cs out : List ℕ) → n ≡ min file (length space)
-    → runs indent (requests_of r) (memory n space ns cs out) ≡ runs indent (requests_of r) (memory (min file (length space)) space ns cs out)
-started n file indent r space ns cs out h = rw h
-
-pub turned_in : (indent : ℕ) (q : Request) (m next : Memory) → m.file.size ≤ length m.file.space → next ≡ after indent q m
-    → length next.file.space ≡ length m.file.space → next.file.size ≤ length next.file.space
-turned_in indent q m next h e l = rw (ap (λ (x : Memory). x.file.size) e, l) (size_in indent q m h)
-
 module _ (indent : ℕ) (r : List ℕ) (m m' : Memory) where
-  pub turn : runs indent (requests_of r) m ≡ m'
+  turn : runs indent (requests_of r) m ≡ m'
       → (ns rest : List ℕ) → (ns ≡ take 4 r) × (rest ≡ drop 4 r) × (length rest + 4 ≡ length r)
       → (next : Memory) (q : Request) → q ≡ ask (not (eqb (get_or ns 0 0) 0)) (get_or ns 1 0) (get_or ns 2 0) (get_or ns 3 0) → next ≡ after indent q m
       → runs indent (requests_of rest) next ≡ m'
@@ -257,6 +242,41 @@ module _ (indent : ℕ) (r : List ℕ) (m m' : Memory) where
       ∙ e
       in rw h.1 a
 
-  pub none_left : length r < 4 → runs indent (requests_of r) m ≡ m' → m ≡ m'
+  none_left : length r < 4 → runs indent (requests_of r) m ≡ m' → m ≡ m'
   unfolding runs
   none_left h e = sym (ap (λ (qs : List Request). runs indent qs m) (few_left r h)) ∙ e
+
+-- m is what all requests make of the file s and what is lent, k, and r are those left, at the file t and l
+pub record Left (indent : ℕ) (r : List ℕ) (m : Memory) (s t : F.File) (k l : Lent ℕ) : Type 0 where
+  pub goes : runs indent (requests_of r) (held t l) ≡ m
+  pub space : t.space.ghost_name ≡ s.space.ghost_name
+  pub nodes : l.nodes.ghost_name ≡ k.nodes.ghost_name
+  pub comments : l.comments.ghost_name ≡ k.comments.ghost_name
+  pub out : l.out.ghost_name ≡ k.out.ghost_name
+
+pub begun : (indent : ℕ) (r : List ℕ) (s : F.File) (k : Lent ℕ) → Left indent r (runs indent (requests_of r) (held s k)) s s k k
+begun indent r s k = record { goes = refl; space = refl; nodes = refl; comments = refl; out = refl }
+
+module _ {indent : ℕ} {r : List ℕ} {m : Memory} {s t : F.File} {k l : Lent ℕ} (v : Left indent r m s t k l) where
+  pub turned : {u : F.File} {n : Lent ℕ} (ns rest : List ℕ) → (ns ≡ take 4 r) × (rest ≡ drop 4 r) × (length rest + 4 ≡ length r)
+      → (q : R.Request) → Asks ns q → Leaves (after indent (asked q) (held t l)) t u l n → Left indent rest m s u k n
+  turned {u} {n} ns rest h q e w = record {
+    goes = turn indent r (held t l) m v.goes ns rest h (held u n) (asked q) e w.goes;
+    space = w.space ∙ v.space;
+    nodes = w.nodes ∙ v.nodes;
+    comments = w.comments ∙ v.comments;
+    out = w.out ∙ v.out;
+  }
+
+  pub over : length r < 4 → Leaves m s t k l
+  over h = record {
+    goes = none_left indent r (held t l) m h v.goes;
+    space = v.space;
+    nodes = v.nodes;
+    comments = v.comments;
+    out = v.out;
+  }
+
+pub started : (n file indent : ℕ) (r space ns cs out : List ℕ) → n ≡ min file (length space)
+    → runs indent (requests_of r) (memory n space ns cs out) ≡ runs indent (requests_of r) (memory (min file (length space)) space ns cs out)
+started n file indent r space ns cs out h = rw h

@@ -1,5 +1,8 @@
--- What is written of a refusal: what is wrong, and what to do where that is plain.
-use Rattle.std.specs.Prelude.{ℕ, List, codes}
+-- What is written of a refusal: its numbers; what is wrong, and what to do where that is plain.
+use Rattle.std.specs.Prelude.{ℕ, List, ◌++◌, codes}
+use Rattle.std.specs.Fmt.{decimal}
+use Rattle.lexer.specs.Refusal.{number_of}
+use Rattle.lexer.specs.declared.error.Refusal.{Refusal}
 use Rattle.lexer.specs.declared.error.ErrorKind.{ErrorKind}
 use Rattle.lexer.specs.declared.error.ErrorKind.TheVariants.{UnrecognizedToken, UnexpectedToken, UnexpectedEOF, UnsupportedType, InvalidValueDeclaration, InvalidFieldName, InvalidFieldId, MissingNamespaceIdentifier, MissingNamespaceScope, MissingIncludeIdentifier, MissingConstIdentifier, MissingTypedefIdentifier, MissingEnumIdentifier, MissingStructIdentifier, MissingServiceIdentifier, MissingServiceExtends, InvalidEnumMemberName, TextTooLong, NotUtf8, NoToken, TooDeep, NodesFull, CommentsFull, IndentTooWide, OutputFull, EnumNumberOutside, NotMovable}
 
@@ -31,3 +34,7 @@ message IndentTooWide = codes "the indent is over 8; give 0 to 8"
 message OutputFull = codes "the print is longer than this program holds; split the text"
 message EnumNumberOutside = codes "the enum member's number doesn't fit 32 bits; give it a smaller one"
 message NotMovable = codes "these tables can't be moved; read the text again"
+
+-- number, place and length, with a blank between two
+abbrev pub refusal_text : Refusal → List ℕ
+refusal_text r = decimal (number_of r.kind) ++ (codes " " ++ (decimal r.place ++ (codes " " ++ decimal r.length)))

@@ -40,14 +40,14 @@ pub enum ErrorKind {
     NotMovable = 33,
 }
 
-impl ErrorKind {
+// The papers' number.
+impl From<ErrorKind> for u32 {
     ghost use Rattle.lexer.specs.Refusal.{number_of};
 
-    // The papers' number.
-    pub fn number(self) -> u32
-        ensures { result ≡ number_of self }
-    {
-        self as u32
+    ghost from_gives = { λ kind number. number ≡ number_of kind };
+
+    fn from(kind: ErrorKind) -> u32 {
+        kind as u32
     }
 }
 
@@ -77,7 +77,20 @@ impl Refusal {
     pub fn numbers(self) -> [u32; 3]
         ensures { result ≡ number_of self.kind ∷ self.place ∷ self.length ∷ [] }
     {
-        [self.kind.number(), self.place, self.length]
+        [u32::from(self.kind), self.place, self.length]
+    }
+}
+
+// The papers' number, the place and the length, with a blank between two.
+impl fmt::Display for Refusal {
+    ghost use Rattle.std.specs.Prelude.{Some};
+    ghost use Rattle.lexer.specs.Message.{refusal_text};
+
+    ghost output = { λ refusal. Some (refusal_text refusal) };
+
+    fn fmt<W: fmt::Write>(&self, f: &mut fmt::Formatter<W>) -> fmt::Result {
+        let number = u32::from(self.kind);
+        write!(f, "{number} {} {}", self.place, self.length)
     }
 }
 

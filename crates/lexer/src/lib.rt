@@ -41,7 +41,7 @@ fn mark(k: u8, from: Lexer) -> Next
     Next::On(ParserToken { token, loc }, behind)
 }
 
-// The next token of the text behind the lexer's offset: rico's create_parser_token.
+// The next token of the text behind the lexer's offset: rico's create_parser_token. That the text passed 20 is asked for here and by its three callers, which have just seen it; a struct of the text alone, as `reader` makes one for a call, would be made at each token here.
 pub fn next_token(text: &[u8], lexer: Lexer) -> Next
     requires { (length text.now ≤ limit) × Placed lexer }
     ensures { result ≡ next text.now lexer }

@@ -29,7 +29,7 @@ pub struct ParserToken {
     pub loc: LOC,
 }
 
-// The lexer by value: its offset, the lines passed, the offset where the line starts.
+// The lexer by value: its offset, the lines passed, the offset where the line starts. That it may stand in a text (`Placed`) is asked where a place is made of it: the definitions make any.
 #[derive(Clone, Copy, Debug, PartialEq, Eq)]
 pub struct Lexer {
     pub at: u32,

@@ -4,7 +4,6 @@
 
 ghost use Rattle.std.specs.Prelude.{◌+◌, ◌≤◌, length};
 
-use lexer::error::Refusal;
 use parser::{Answer, Counts};
 use std::io::Stdout;
 use std::{fmt, io};
@@ -31,13 +30,7 @@ impl fmt::Display for Numbers<'_> {
 fn write_answer(out: Stdout, answer: Answer) -> io::Result<()> {
     match answer {
         Ok(Counts { nodes, comments }) => print!(out; "A {nodes} {comments}"),
-        Err(
-            Refusal {
-                kind,
-                place,
-                length,
-            },
-        ) => print!(out; "R {} {place} {length}", kind.number()),
+        Err(refusal) => print!(out; "R {refusal}"),
     }
 }
 

@@ -7,20 +7,20 @@ ghost use Rattle.lexer.specs.Check.{checked};
 ghost use Rattle.parser.specs.Read.{reading};
 ghost use Rattle.writer.specs.Write.{printing};
 ghost use Rattle.enum_numbers.specs.Numbering.{numbering};
-ghost use Rattle.move_tables.specs.Moves.{widens, narrows, said};
+ghost use Rattle.move_tables.specs.Moves.{widens, narrows};
 ghost use Rattle.place.specs.Place.{place_of};
 ghost use Rattle.file.specs.Run.{requests_of, memory, runs, Unaltered};
-ghost use Rattle.link.specs.Told.{laid, laid_with, three};
+ghost use Rattle.link.specs.Told.{laid, told_numbers, three};
 
-use move_tables::Moved;
+use lexer::error::Refusal;
 
-// Numbers at the front of a slice, as many as it holds, and `rest` behind them.
-fn fill<T: Copy>(slice: &mut [T], numbers: &[T], rest: T)
-    ensures { slice.new ≡ laid_with rest numbers.now slice.old }
+// Lays the numbers of an accepted answer, or a refusal's number, place and length.
+fn tell<const N: usize>(answer: &mut [u32], told: Result<[u32; N], Refusal>)
+    ensures { answer.new ≡ laid (told_numbers told.entry) answer.old }
 {
-    for i in 0..slice.len() {
-        let number = if i < numbers.len() { numbers[i] } else { rest };
-        slice[i] = number;
+    match told {
+        Ok(numbers) => ast::lay(answer, &numbers, 0),
+        Err(refusal) => ast::lay(answer, &refusal.numbers(), 0),
     }
 }
 
@@ -29,10 +29,8 @@ fn fill<T: Copy>(slice: &mut [T], numbers: &[T], rest: T)
 pub extern "C" fn hirvelan_check(text: &[u8], answer: &mut [u32])
     ensures { answer.new ≡ laid (numbers (checked text.now)) answer.old }
 {
-    match lexer::check(text) {
-        Ok(()) => fill(answer, &[0], 0),
-        Err(refusal) => fill(answer, &refusal.numbers(), 0),
-    }
+    let checked = lexer::check(text);
+    tell(answer, checked.map(|()| [0]));
 }
 
 // Reads a text into both tables. The answer's numbers: 0 and the counts of nodes and of comments, or a refusal's number, place and length.
@@ -47,10 +45,11 @@ pub extern "C" fn hirvelan_read(
         × (comments.new ≡ (reading text.now nodes.old comments.old).comments)
         × (answer.new ≡ laid (numbers (reading text.now nodes.old comments.old).says) answer.old) }
 {
-    match reader::read(text, nodes, comments) {
-        Ok(counts) => fill(answer, &[0, counts.nodes, counts.comments], 0),
-        Err(refusal) => fill(answer, &refusal.numbers(), 0),
-    }
+    let read = reader::read(text, nodes, comments);
+    tell(
+        answer,
+        read.map(|counts| [0, counts.nodes, counts.comments]),
+    );
 }
 
 // Reads a text into both tables, and lists the number of each enum member. The answer's numbers: 0 and the count of members, or a refusal's number, place and length.
@@ -67,20 +66,8 @@ pub extern "C" fn hirvelan_enum_numbers(
         × (list.new ≡ (numbering text.now nodes.old comments.old list.old).list)
         × (answer.new ≡ laid (numbers (numbering text.now nodes.old comments.old list.old).says) answer.old) }
 {
-    match enum_numbers::numbers(text, nodes, comments, list) {
-        Ok(members) => fill(answer, &[0, members], 0),
-        Err(refusal) => fill(answer, &refusal.numbers(), 0),
-    }
-}
-
-// The answer's numbers of a move: 0 and the count of records, or a refusal's number, place and length, which is 0.
-fn tell_moved(answer: &mut [u32], moved: Moved)
-    ensures { answer.new ≡ laid (numbers (said moved)) answer.old }
-{
-    match moved {
-        Ok(records) => fill(answer, &[0, records], 0),
-        Err(refusal) => fill(answer, &refusal.numbers(), 0),
-    }
+    let numbered = enum_numbers::numbers(text, nodes, comments, list);
+    tell(answer, numbered.map(|members| [0, members]));
 }
 
 // Moves a stored node table from nine numbers a record to ten. The answer's numbers: 0 and the count of records, or a refusal's number, place and length.
@@ -90,17 +77,17 @@ pub extern "C" fn hirvelan_widen(table: &[u32], out: &mut [u32], answer: &mut [u
         × (answer.new ≡ laid (numbers (widens table.now out.old).says) answer.old) }
 {
     let moved = move_tables::widen(table, out);
-    tell_moved(answer, moved);
+    tell(answer, moved.map(|records| [0, records]));
 }
 
-// Moves a node table from ten numbers a record to nine. The answer's numbers: as of hirvelan_widen.
+// Moves a node table from ten numbers a record to nine. The answer's numbers: as of hirvelan_widen. C has a name for each direction.
 #[unsafe(no_mangle)]
 pub extern "C" fn hirvelan_narrow(table: &[u32], out: &mut [u32], answer: &mut [u32])
     ensures { (out.new ≡ (narrows table.now out.old).out)
         × (answer.new ≡ laid (numbers (narrows table.now out.old).says) answer.old) }
 {
     let moved = move_tables::narrow(table, out);
-    tell_moved(answer, moved);
+    tell(answer, moved.map(|records| [0, records]));
 }
 
 // Where an offset of a text stands, any offset of any text. The place's numbers: line and column, from 1, and the offset, held to the text's end and to 65,536.
@@ -109,7 +96,7 @@ pub extern "C" fn hirvelan_place(text: &[u8], offset: u32, place: &mut [u32])
     ensures { place.new ≡ laid (three (place_of text.now offset)) place.old }
 {
     let found = place::find(text, offset);
-    fill(place, &[found.line, found.column, found.index], 0);
+    ast::lay(place, &[found.line, found.column, found.index], 0);
 }
 
 // Prints a text at an indent. The answer's numbers: 0, the counts of nodes and of comments and the bytes written, or a refusal's number, place and length.
@@ -128,19 +115,23 @@ pub extern "C" fn hirvelan_print(
         × (answer.new ≡ laid (numbers (printing text.now indent nodes.old comments.old out.old).says) answer.old) }
 {
     match printer::print(text, indent, nodes, comments, out) {
-        Ok(print) => fill(
+        Ok(print) => ast::lay(
             answer,
             &[
                 0,
-                print.nodes as u64,
-                print.comments as u64,
+                u64::from(print.nodes),
+                u64::from(print.comments),
                 print.bytes as u64,
             ],
             0,
         ),
         Err(refusal) => {
             let [number, place, length] = refusal.numbers();
-            fill(answer, &[number as u64, place as u64, length as u64], 0)
+            ast::lay(
+                answer,
+                &[u64::from(number), u64::from(place), u64::from(length)],
+                0,
+            )
         }
     }
 }

@@ -1,7 +1,8 @@
 -- The moves' answers, case by case, as the code finds them.
-use mathlib.Core.Path.{◌≡◌, refl, sym, ap, ◌∙◌}
+use mathlib.Core.Path.{◌≡◌, sym, ap, ◌∙◌}
 use Rattle.std.specs.Prelude.{Option, Some, None}
-use mathlib.Core.Bool.{Bool, true, false, cond, ◌&&◌}
+use Rattle.std.proofs.Math.Bool.{and-false}
+use mathlib.Core.Bool.{Bool, true, false, cond}
 use mathlib.Core.Logic.{◌⊎◌, inl, inr}
 use mathlib.Core.List.{List, [], ◌∷◌}
 use Prim.Native.Nat.{ℕ, ◌*◌, ◌/◌, ◌%◌, ◌≤◌, ◌<◌}
@@ -27,10 +28,6 @@ use Rattle.move_tables.proofs.Results.{parents_are, narrow_is, widen_is}
 
 -- ---- a table's length and its parents
 
-and_no : (b : Bool) → (b && false) ≡ false
-and_no true = refl
-and_no false = refl
-
 module _ (w : ℕ) (t : List ℕ) where
   uneven : (length t % w ≡ 0 → ⊥) → whole w t ≡ false
   unfolding whole room
@@ -38,7 +35,7 @@ module _ (w : ℕ) (t : List ℕ) where
 
   many : most_records < length t / w → whole w t ≡ false
   unfolding whole room
-  many h = rw (lt-leb (length t / w) most_records h) (and_no (eqb (length t / w * w) (length t)))
+  many h = rw (lt-leb (length t / w) most_records h) (and-false (eqb (length t / w * w) (length t)))
 
   pub bad_length : (length t % w ≡ 0 → ⊥) ⊎ ((length t % w ≡ 0) × (most_records < length t / w)) → unmovable w t ≡ Some 0
   unfolding unmovable
@@ -46,12 +43,9 @@ module _ (w : ℕ) (t : List ℕ) where
   bad_length (inr h) = rw (many h.1)
 
   module _ (even : length t % w ≡ 0) (few : length t / w ≤ most_records) where
-    fits : length t / w * w ≡ length t
-    fits = let q = div-add-mod' (length t) w in omega (arith, q, even)
-
     is_whole : whole w t ≡ true
     unfolding whole room
-    is_whole = rw (eq-eqb (length t / w * w) (length t) fits, le-leb (length t / w) most_records few)
+    is_whole = let q = div-add-mod' (length t) w in rw (eq-eqb (length t / w * w) (length t) (omega (arith, q, even)), le-leb (length t / w) most_records few)
 
     module _ (h : Parent < w) {o : Option ℕ} (e : o ≡ bad_parent 0 (no_parent ∷ []) (parents_from w t (length t / w) 0)) where
       first_are : first_bad_parent (records w t) ≡ o
@@ -66,7 +60,7 @@ module _ (w : ℕ) (t : List ℕ) where
       fine d = record {
         fits = is_whole;
         parents_good = first_are ∙ d;
-        good = record { holds = record { wide = h; within = let q = fits in omega arith; few = few }; good = sym e ∙ d };
+        good = record { holds = record { wide = h; within = let q = whole_length w t is_whole in omega arith; few = few }; good = sym e ∙ d };
       }
 
   module _ {n : ℕ} (f : Fine w t) (e : n ≡ length t / w) where

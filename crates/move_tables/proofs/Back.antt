@@ -5,6 +5,8 @@ use mathlib.Core.Path.{◌≡◌, refl, sym, ap, ◌∙◌}
 use mathlib.Core.Bool.{Bool, true, false, cond}
 use mathlib.Core.List.{List, [], ◌∷◌, ◌++◌}
 use Rattle.std.specs.Prelude.{Option, Some, None}
+use Rattle.std.proofs.lemmas.List.{nil_from_length}
+use Rattle.std.proofs.lemmas.Option.{none-some}
 use Prim.Native.Nat.{ℕ, suc, ◌*◌, ◌-◌, ◌≤◌}
 use native.Mathlib.Omega.{arith}
 use borrow.Author.Tests.{eqb-true, eq-eqb, le-ltb}
@@ -70,15 +72,8 @@ ten_split : (r : List ℕ) → length r ≡ node_width → take narrow_width r +
 unfolding comment_width node_width
 ten_split r h =
     let e : drop narrow_width r ≡ get_or r Past 0 ∷ drop node_width r = drop-cons r narrow_width 0 (omega (arith, h)) in
-    let n : drop node_width r ≡ [] = none_left (drop node_width r) (omega (arith, length-drop node_width r, h)) in
+    let n : drop node_width r ≡ [] = nil_from_length (drop node_width r) (omega (arith, length-drop node_width r, h)) in
     sym (sym (take-append-drop narrow_width r) ∙ ap (λ (l : List ℕ). take narrow_width r ++ l) (e ∙ ap (λ (l : List ℕ). get_or r Past 0 ∷ l) n))
-  where
-    none_left : (l : List ℕ) → length l ≡ 0 → l ≡ []
-    none_left [] e = refl
-    none_left (x ∷ l) e = absurd (omega arith)
-
-some_none : {n : ℕ} → Some n ≡ None → ⊥
-some_none e = let z : ◌≡◌ {A = ℕ} 0 1 = cc in omega arith
 
 narrowed_back_rows : {rs : List (List ℕ)} (n : ℕ) → All (Wide node_width) rs → bad_tenth n rs ≡ None → widened n (narrowed rs) ≡ rs
 unfolding widened narrowed bad_tenth comment_width
@@ -89,21 +84,21 @@ narrowed_back_rows n (acons {x = r} {xs = rs} h hs) e =
     by : (b : Bool) → eqb (get_or r Past 0) (past n (suc n) (parents rs)) ≡ b → cond b (bad_tenth (suc n) rs) (Some n) ≡ None →
         (bad_tenth (suc n) rs ≡ None → widened (suc n) (narrowed rs) ≡ rs) → widened n (narrowed (r ∷ rs)) ≡ r ∷ rs
     by true g k q = rw (narrowed_parents rs, sym (eqb-true (get_or r Past 0) (past n (suc n) (parents rs)) g), ten_split r h, q k)
-    by false g k q = absurd (some_none k)
+    by false g k q = absurd (none-some n (sym k))
 
 -- ---- outcomes
 
-refused_moved : {e p n : ℕ} {rs : List (List ℕ)} → refused e p n ≡ accepted rs → ⊥
-refused_moved x = let z : ◌≡◌ {A = ℕ} 0 1 = cc in omega arith
+pub not_accepted : {A : Type 0} {e p n : ℕ} {a : A} → refused e p n ≡ accepted a → ⊥
+not_accepted x = let z : ◌≡◌ {A = ℕ} 0 1 = cc in omega arith
 
 unless_none : (o : Option ℕ) (x : Outcome (List (List ℕ))) {rs : List (List ℕ)} → unless o x ≡ accepted rs → (o ≡ None) × (x ≡ accepted rs)
 unfolding unless
 unless_none None x e = (refl, e)
-unless_none (Some n) x e = absurd (refused_moved e)
+unless_none (Some n) x e = absurd (not_accepted e)
 
 cond_moved : (b : Bool) (x : Outcome (List (List ℕ))) {rs : List (List ℕ)} → cond b x (refused NotMovable 0 0) ≡ accepted rs → (b ≡ true) × (x ≡ accepted rs)
 cond_moved true x e = (refl, e)
-cond_moved false x e = absurd (refused_moved e)
+cond_moved false x e = absurd (not_accepted e)
 
 -- a table of nine numbers that is moved
 pub record Wider (t : List ℕ) (rs : List (List ℕ)) : Type 0 where
@@ -170,9 +165,6 @@ pub record Wrote (x : Outcome (List (List ℕ))) (out : List ℕ) (n : ℕ) : Ty
   pub are : x ≡ accepted rs
   pub count : n ≡ length rs
   pub left : (into x out).out ≡ filled rs out
-
-not_accepted : {e p m : ℕ} {ns : List ℕ} → ◌≡◌ {A = Outcome (List ℕ)} (refused e p m) (accepted ns) → ⊥
-not_accepted x = let z : ◌≡◌ {A = ℕ} 0 1 = cc in omega arith
 
 pub wrote : (x : Outcome (List (List ℕ))) (out : List ℕ) (n : ℕ) → (into x out).says ≡ accepted (n ∷ []) → Wrote x out n
 unfolding into

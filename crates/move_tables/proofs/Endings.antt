@@ -1,91 +1,64 @@
 -- What is done of records where they end, for any state: what the code makes is what `walk` makes.
---     ending_start, ending_on, ending_done          from ancestor to ancestor, up to p
---     walk_start, walk_passes, walk_on, walk_end    from record to record
+--     ending_start, ending_on, ending_done, ending_is    from ancestor to ancestor, up to p
+--     walk_start, walk_passes, walk_on, walk_end         from record to record
 use mathlib.Core.Path.{◌≡◌, refl, sym, ap, ◌∙◌}
 use Rattle.std.specs.Prelude.{Option, Some, None}
-use mathlib.Core.Bool.{Bool, true, false, cond, ◌||◌}
+use Rattle.std.proofs.lemmas.Option.{none-some}
+use mathlib.Core.Bool.{Bool, true, false, cond}
 use mathlib.Core.List.{List, [], ◌∷◌}
 use Prim.Native.Nat.{ℕ, suc, ◌+◌, ◌*◌, ◌-◌, ◌≤◌, ◌<◌}
 use native.Mathlib.Omega.{arith}
-use borrow.Author.Tests.{eq-eqb, ne_eqb}
 use lib.Dec.{eqb}
 use lib.ListN.{length, set, length-set}
 use Rattle.ast.specs.Column.{Past}
+use Rattle.ast.specs.Lists.{All, acons}
 use Rattle.ast.specs.Records.{node_width, no_parent}
-use Rattle.move_tables.specs.Moves.{most_records, among, from, bad_parent}
-use Rattle.move_tables.specs.Walk.{parent_in, parents_from, Up, top, up, Holds, Passes, Good, ends, walk, writes}
-use Rattle.move_tables.proofs.Ancestors.{rank, holds_less, up_same, up_less, up_from}
+use Rattle.move_tables.specs.Moves.{among, from, bad_parent}
+use Rattle.move_tables.specs.Walk.{parent_in, parents_from, up_to, Up, top, up, Holds, Passes, Good, ends, walk, writes}
+use Rattle.move_tables.proofs.Climbing.{before, holds_less, none_among, up_same, up_from, ancestors_left, before_below, next_parent}
 
--- the state was s₀ at `at`, and is s at a, on the way to p
-pub record Ending {S : Type 0} (w : ℕ) (t : List ℕ) (f : ℕ → S → S) (below at p : ℕ) (s₀ : S) (a : ℕ) (s : S) : Type 0 where
-  pub m : ℕ
-  pub few : m ≤ below
-  pub ancestors : List ℕ
-  pub is : Up w t m a ancestors
-  pub has : among p ancestors ≡ true
-  pub ancestors₀ : List ℕ
-  pub is₀ : Up w t below at ancestors₀
-  pub same : ends f p ancestors₀ s₀ ≡ ends f p ancestors s
+-- f done of each
+unfoldable pub done : {S : Type 0} → (ℕ → S → S) → List ℕ → S → S
+done f [] s = s
+done f (a ∷ l) s = done f l (f a s)
 
--- one record that ends
-pub record Ended {S : Type 0} (w : ℕ) (t : List ℕ) (f : ℕ → S → S) (m p a : ℕ) (ancestors : List ℕ) (s : S) : Type 0 where
-  pub inner : List ℕ
-  pub inside : a < m
-  pub record_is : a ≡ no_parent → ⊥
-  pub next : Up w t a (parent_in w t a) inner
-  pub has : among p inner ≡ true
-  pub same : ends f p ancestors s ≡ ends f p inner (f a s)
-
-first : {S : Type 0} {w : ℕ} {t : List ℕ} (f : ℕ → S → S) {m a : ℕ} {ancestors : List ℕ} (p : ℕ) (s : S) → a ≡ p → Up w t m a ancestors → ends f p ancestors s ≡ s
-unfolding ends
-first f {a = a} p s e (top h) = rw (eq-eqb a p e)
-first f {a = a} p s e (up h u) = rw (eq-eqb a p e)
-
-module _ {S : Type 0} {w : ℕ} {t : List ℕ} {f : ℕ → S → S} where
-  pub ending_start : {below at p : ℕ} (s : S) → Passes w t below at p → Ending w t f below at p s at s
-  ending_start {below} s q =
-      record { m = below; few = omega arith; ancestors = q.ancestors; is = q.is; has = q.has; ancestors₀ = q.ancestors; is₀ = q.is; same = refl }
-
-  ended : {m a : ℕ} {ancestors : List ℕ} (p : ℕ) (s : S) → m ≤ most_records → (a ≡ p → ⊥) → among p ancestors ≡ true → Up w t m a ancestors → Ended w t f m p a ancestors s
-  unfolding among ends no_parent
-  ended {a = a} p s g d h (top e) = let z = rw (ne_eqb a p d) at h in let y : ◌≡◌ {A = ℕ} 0 1 = cc in absurd (omega arith)
-  ended p s g d h (up {a = a} {ancestors = ancestors} k u) =
-      record { inner = ancestors; inside = k; record_is = λ e. omega (arith, e, k, g); next = u; has = rw (ne_eqb a p d) at h; same = rw (ne_eqb a p d) }
-
-  module _ {below at p a : ℕ} {s₀ s : S} (g : below ≤ most_records) (d : a ≡ p → ⊥) (k : Ending w t f below at p s₀ a s) where
-    pub ending_step : Ended w t f k.m p a k.ancestors s
-    ending_step = let e = k.few in ended p s (omega arith) d k.has k.is
-
-    pub ending_below : a < below
-    ending_below = let e = k.few in omega (arith, ending_step.inside)
-
-    pub ending_holds : Holds w t below → Holds w t (suc a)
-    ending_holds h = holds_less ending_below h
-
-    pub ending_less : rank (parent_in w t a) < rank a
-    ending_less = up_less ending_step.record_is ending_step.next
-
-    pub ending_on : Ending w t f below at p s₀ (parent_in w t a) (f a s)
-    ending_on =
-        let l = ending_step in
-        let e = k.few in
-        let i = l.inside in
-        record { m = a; few = omega arith; ancestors = l.inner; is = l.next; has = l.has; ancestors₀ = k.ancestors₀; is₀ = k.is₀; same = k.same ∙ l.same }
-
-  pub ending_done : {below at p a : ℕ} {s₀ s : S} → below ≤ most_records → a ≡ p → Ending w t f below at p s₀ a s →
-      (ancestors : List ℕ) → Up w t below at ancestors → s ≡ ends f p ancestors s₀
-  ending_done {p = p} {s₀ = s₀} {s = s} g e k ancestors is =
-      sym (ap (λ (l : List ℕ). ends f p l s₀) (up_same g g is k.is₀) ∙ k.same ∙ first f p s e k.is)
-
--- 4294967295 is among the ancestors of every record
-pub none_among : {w : ℕ} {t : List ℕ} {m a : ℕ} {ancestors : List ℕ} → Up w t m a ancestors → among no_parent ancestors ≡ true
-unfolding among
-none_among (top {a = a} e) = rw (eq-eqb a no_parent e)
-none_among (up {a = a} h u) = by (eqb a no_parent) (none_among u)
+ends_are : {S : Type 0} (f : ℕ → S → S) (p : ℕ) (l : List ℕ) (s : S) → ends f p l s ≡ done f (before p l) s
+unfolding ends before done
+ends_are f p [] s = refl
+ends_are f p (a ∷ l) s = by (eqb a p) (ends_are f p l (f a s))
   where
-    by : {b : Bool} (x : Bool) → b ≡ true → (x || b) ≡ true
+    by : (x : Bool) → ends f p l (f a s) ≡ done f (before p l) (f a s) → cond x s (ends f p l (f a s)) ≡ done f (cond x [] (a ∷ before p l)) s
     by true e = refl
     by false e = e
+
+-- with state s, and these left, all below n: what is made in the end
+pub record Ending {S : Type 0} (f : ℕ → S → S) (n : ℕ) (all : S) (l : List ℕ) (s : S) : Type 0 where
+  pub below : All (λ a. a < n) l
+  pub same : done f l s ≡ all
+
+parts : {n a : ℕ} {l : List ℕ} → All (λ b. b < n) (a ∷ l) → (a < n) × All (λ b. b < n) l
+parts (acons h hs) = (h, hs)
+
+module _ {S : Type 0} {f : ℕ → S → S} {n : ℕ} {all s : S} where
+  module _ {a : ℕ} {l l' : List ℕ} (e : l ≡ a ∷ l') (k : Ending f n all l s) where
+    pub ending_below : a < n
+    ending_below = (parts (rw e at k.below)).0
+
+    pub ending_on : Ending f n all l' (f a s)
+    unfolding done
+    ending_on = record { below = (parts (rw e at k.below)).1; same = rw e at k.same }
+
+  pub ending_done : {l : List ℕ} → l ≡ [] → Ending f n all l s → s ≡ all
+  unfolding done
+  ending_done e k = rw e at k.same
+
+module _ {S : Type 0} {w : ℕ} {t : List ℕ} (f : ℕ → S → S) {n at p : ℕ} (q : Passes w t n at p) (s : S) where
+  pub ending_start : Ending f n (done f (up_to (suc at) w t p at) s) (up_to (suc at) w t p at) s
+  ending_start = record { below = rw (ancestors_left p q.has q.is) (before_below n p (omega arith) q.has q.is); same = refl }
+
+  pub ending_is : (ancestors : List ℕ) → Up w t n at ancestors → done f (up_to (suc at) w t p at) s ≡ ends f p ancestors s
+  ending_is ancestors is =
+      rw (ancestors_left p q.has q.is, up_same q.holds.few q.holds.few is q.is) (sym (ends_are f p q.ancestors s))
 
 -- before record n, after `at`, with state s: what the walk makes from here on is what it makes in all
 pub record Walked {S : Type 0} (w : ℕ) (t : List ℕ) (f : ℕ → ℕ → S → S) (count n at : ℕ) (s all : S) : Type 0 where
@@ -95,9 +68,6 @@ pub record Walked {S : Type 0} (w : ℕ) (t : List ℕ) (f : ℕ → ℕ → S �
   pub good : bad_parent n ancestors (parents_from w t (count - n) n) ≡ None
   pub same : walk f n ancestors (parents_from w t (count - n) n) s ≡ all
 
-some_none : {n : ℕ} → Some n ≡ None → ⊥
-some_none e = let z : ◌≡◌ {A = ℕ} 0 1 = cc in omega arith
-
 module _ {S : Type 0} {w : ℕ} {t : List ℕ} {f : ℕ → ℕ → S → S} where
   pub walk_start : {count : ℕ} (s : S) → Good w t count → Walked w t f count 0 no_parent s (walk f 0 (no_parent ∷ []) (parents_from w t count 0) s)
   walk_start {count} s g =
@@ -105,12 +75,8 @@ module _ {S : Type 0} {w : ℕ} {t : List ℕ} {f : ℕ → ℕ → S → S} whe
       record { within = omega arith; ancestors = no_parent ∷ []; is = top refl; good = rw e g.good; same = rw e }
 
   module _ {count n at : ℕ} {s all : S} (h : n < count) (k : Walked w t f count n at s all) where
-    one : parents_from w t (count - n) n ≡ parent_in w t n ∷ parents_from w t (count - suc n) (suc n)
-    unfolding parents_from
-    one = let e : count - n ≡ suc (count - suc n) = omega arith in rw e
-
     good_one : bad_parent n k.ancestors (parent_in w t n ∷ parents_from w t (count - suc n) (suc n)) ≡ None
-    good_one = ap (bad_parent n k.ancestors) (sym one) ∙ k.good
+    good_one = ap (bad_parent n k.ancestors) (sym (next_parent w t count n h)) ∙ k.good
 
     has : among (parent_in w t n) k.ancestors ≡ true
     unfolding bad_parent
@@ -118,7 +84,7 @@ module _ {S : Type 0} {w : ℕ} {t : List ℕ} {f : ℕ → ℕ → S → S} whe
       where
         by : (o : Option ℕ) (b : Bool) → cond b o (Some n) ≡ None → b ≡ true
         by o true e = refl
-        by o false e = absurd (some_none e)
+        by o false e = absurd (none-some _ (sym e))
 
     pub walk_passes : Holds w t count → Passes w t n at (parent_in w t n)
     walk_passes g = let i = k.within in record { holds = holds_less i g; ancestors = k.ancestors; is = k.is; has = has }
@@ -127,7 +93,7 @@ module _ {S : Type 0} {w : ℕ} {t : List ℕ} {f : ℕ → ℕ → S → S} whe
     unfolding bad_parent walk
     walk_on s' e =
         let g : bad_parent (suc n) (n ∷ from (parent_in w t n) k.ancestors) (parents_from w t (count - suc n) (suc n)) ≡ None = rw has at good_one in
-        let d : walk f n k.ancestors (parent_in w t n ∷ parents_from w t (count - suc n) (suc n)) s ≡ all = ap (λ (ps : List ℕ). walk f n k.ancestors ps s) (sym one) ∙ k.same in
+        let d : walk f n k.ancestors (parent_in w t n ∷ parents_from w t (count - suc n) (suc n)) s ≡ all = ap (λ (ps : List ℕ). walk f n k.ancestors ps s) (sym (next_parent w t count n h)) ∙ k.same in
         let i : n < suc n = omega arith in
         let j : n + 1 ≡ suc n = omega arith in
         rw (j, e) (record { within = omega arith; ancestors = n ∷ from (parent_in w t n) k.ancestors; is = up i (up_from (parent_in w t n) has k.is); good = g; same = d })

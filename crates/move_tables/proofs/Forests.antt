@@ -2,10 +2,11 @@
 --     forest_narrows, forest_widens            of any forest
 --     definitions_narrow, definitions_widen    of a file's definitions
 use mathlib.Core.Path.{◌≡◌, refl, ap, ◌∙◌}
-use mathlib.Core.Bool.{Bool, true, false, ◌&&◌}
+use mathlib.Core.Bool.{true, false}
 use mathlib.Core.List.{List, [], ◌∷◌, ◌++◌, append_assoc, append-nil}
 use mathlib.Core.Logic.{◌⊎◌, ⊎_elim, inl, inr}
 use Rattle.std.specs.Prelude.{None}
+use Rattle.std.proofs.Math.Bool.{and-false}
 use Prim.Native.Nat.{ℕ, suc, ◌+◌, ◌≤◌, ◌<◌}
 use native.Mathlib.Omega.{arith}
 use borrow.Author.Tests.{eq-eqb, ne_eqb, le-leb, lt-leb, lt-ltb, le-ltb}
@@ -82,14 +83,10 @@ mutual
 abbrev Stops : ℕ → List ℕ → Type 0
 Stops n qs = (a m : ℕ) → n ≤ a → past a m qs ≡ m
 
-and_false : (b : Bool) → (b && false) ≡ false
-and_false true = refl
-and_false false = refl
-
 pub not_inside : (p n a : ℕ) → Before p n → n ≤ a → inside a p ≡ false
 unfolding inside
 not_inside p n a b h =
-    ⊎_elim (λ l. rw (lt-leb a p (omega (arith, l, h)))) (λ l. rw (le-ltb p no_parent (omega (arith, l))) (and_false (leb a p))) b
+    ⊎_elim (λ l. rw (lt-leb a p (omega (arith, l, h)))) (λ l. rw (le-ltb p no_parent (omega (arith, l))) (and-false (leb a p))) b
 
 pub is_inside : (p a : ℕ) → a ≤ p → p < no_parent → inside a p ≡ true
 unfolding inside

@@ -3,7 +3,7 @@ pub mod Back
 pub mod Forests
 pub mod Readings
 pub mod Lists
-pub mod Ancestors
+pub mod Climbing
 pub mod Endings
 pub mod WalkLaws
 pub mod Copying

@@ -4,26 +4,23 @@
 --     concat_records, concat_whole   the records of records put together
 use mathlib.Core.Path.{◌≡◌, refl, sym, ap, ◌∙◌}
 use mathlib.Core.Bool.{true}
-use mathlib.Core.List.{List, [], ◌∷◌, append-nil}
+use mathlib.Core.List.{List, [], append-nil}
 use Prim.Native.Nat.{ℕ, zero, suc, ◌*◌, ◌/◌, ◌≤◌}
 use native.Mathlib.Omega.{arith}
 use borrow.Author.Tests.{eqb-true, leb-true, eq-eqb, le-leb}
 use lib.Dec.{eqb}
 use lib.ListN.{length, drop, length-drop, take-append-drop}
 use lib.Seq.{length-take-le}
+use Rattle.std.proofs.lemmas.List.{nil_from_length}
 use Rattle.ast.specs.Lists.{All, anil, acons}
 use Rattle.ast.specs.Records.{comment_width, node_width, room, chunks, concat}
 use Rattle.ast.proofs.Bools.{and_left, and_right}
 use Rattle.ast.proofs.Counts.{Wide, concat_width, chunks_rows}
 use Rattle.move_tables.specs.Moves.{narrow_width, most_records, records, whole}
 
-nothing : (t : List ℕ) → length t ≡ 0 → t ≡ []
-nothing [] e = refl
-nothing (x ∷ t) e = absurd (omega arith)
-
 chunks_concat : (w n : ℕ) (t : List ℕ) → n * w ≡ length t → concat (chunks w n t) ≡ t
 unfolding chunks concat
-chunks_concat w zero t e = sym (nothing t (omega (arith, e)))
+chunks_concat w zero t e = sym (nil_from_length t (omega (arith, e)))
 chunks_concat w (suc n) t e =
     rw (chunks_concat w n (drop w t) (simp length-drop (omega (arith, e)))) (take-append-drop w t)
 

@@ -5,7 +5,6 @@ use mathlib.Core.Path.{◌≡◌, refl, sym, ap, ◌∙◌}
 use mathlib.Core.Bool.{Bool, true, false, cond}
 use mathlib.Core.List.{List, [], ◌∷◌, ◌++◌}
 use Prim.Native.Nat.{ℕ, ◌*◌, ◌-◌, ◌≤◌}
-use native.Mathlib.Omega.{arith}
 use lib.Dec.{ltb}
 use lib.ListN.{length, take, replicate}
 use lib.Seq.{take_at}
@@ -16,7 +15,7 @@ use Rattle.ast.specs.Records.{comment_width, node_width, node_rows, notes, room,
 use Rattle.ast.proofs.Counts.{concat_width, node_rows_wide}
 use Rattle.parser.specs.Read.{outcome, fitted, answer, left, rows_by, reading}
 use Rattle.move_tables.specs.Moves.{narrow_width, most_records, narrowed, Moving, widens, narrows, moved}
-use Rattle.move_tables.proofs.Back.{narrowed_wide, narrowed_count, written, narrowed_back}
+use Rattle.move_tables.proofs.Back.{narrowed_wide, narrowed_count, written, narrowed_back, not_accepted}
 use Rattle.move_tables.proofs.Forests.{definitions_narrow}
 
 -- the definitions of an accepted reading, and its node table
@@ -25,9 +24,6 @@ pub record Read (t ns cs : List ℕ) (n : ℕ) : Type 0 where
   pub are : outcome t ≡ accepted ds
   pub count : n ≡ length (node_rows ds)
   pub nodes : (reading t ns cs).nodes ≡ filled (node_rows ds) ns
-
-not_accepted : {e p m : ℕ} {l : List ℕ} → ◌≡◌ {A = Outcome (List ℕ)} (refused e p m) (accepted l) → ⊥
-not_accepted x = let z : ◌≡◌ {A = ℕ} 0 1 = cc in omega arith
 
 pub read : (t ns cs : List ℕ) (n c : ℕ) → (reading t ns cs).says ≡ accepted (n ∷ c ∷ []) → Read t ns cs n
 unfolding reading answer fitted left rows_by

@@ -2,6 +2,7 @@
 --     walked    for any state: what is done of a record there is done of each in the end
 use mathlib.Core.Path.{◌≡◌, refl, sym, ap, ◌∙◌}
 use Rattle.std.specs.Prelude.{Option, Some, None}
+use Rattle.std.proofs.lemmas.Option.{none-some}
 use mathlib.Core.Bool.{Bool, true, false, cond, ◌||◌}
 use mathlib.Core.List.{List, [], ◌∷◌}
 use mathlib.Core.Logic.{◌⊎◌, ⊎_elim, inl, inr}
@@ -13,8 +14,7 @@ use Rattle.ast.specs.Lists.{All, anil, acons}
 use Rattle.ast.specs.Records.{no_parent}
 use Rattle.move_tables.specs.Moves.{most_records, among, from, bad_parent, past}
 use Rattle.move_tables.specs.Walk.{parent_in, parents_from, Up, top, up, Good, ends, walk}
-use Rattle.move_tables.proofs.Ancestors.{up_from}
-use Rattle.move_tables.proofs.Endings.{none_among}
+use Rattle.move_tables.proofs.Climbing.{none_among, up_from}
 use Rattle.move_tables.proofs.Forests.{Before, not_inside, is_inside}
 
 lt_of : (b n : ℕ) → b < suc n → (b ≡ n → ⊥) → b < n
@@ -45,10 +45,6 @@ module _ (w : ℕ) (t : List ℕ) (count : ℕ) (few : count ≤ most_records) w
   -- record a does not end before record n
   abbrev Open : ℕ → ℕ → Type 0
   Open n a = (a ≡ no_parent) ⊎ (past_of w t count a ≡ past a n (parents_from w t (count - n) n))
-
-  one : (n : ℕ) → n < count → parents_from w t (count - n) n ≡ parent_in w t n ∷ parents_from w t (count - suc n) (suc n)
-  unfolding parents_from
-  one n h = let e : count - n ≡ suc (count - suc n) = omega arith in rw e
 
   module _ (n p : ℕ) (ps : List ℕ) (ps-are : parents_from w t (count - n) n ≡ p ∷ ps) (next : ps ≡ parents_from w t (count - suc n) (suc n)) (below : p < no_parent) where
     further : (a : ℕ) → a ≤ p → Open n a → Open (suc n) a
@@ -129,7 +125,7 @@ module _ (w : ℕ) (t : List ℕ) (count : ℕ) (few : count ≤ most_records) w
 
     has_parent : (o : Option ℕ) (n : ℕ) (b : Bool) → cond b o (Some n) ≡ None → b ≡ true
     has_parent o n true e = refl
-    has_parent o n false e = let z : ◌≡◌ {A = ℕ} 0 1 = cc in absurd (omega arith)
+    has_parent o n false e = absurd (none-some n (sym e))
 
     stops : (n p : ℕ) (ps : List ℕ) → parents_from w t (count - n) n ≡ p ∷ ps → (x : ℕ) → Before p x → past x n (parents_from w t (count - n) n) ≡ n
     unfolding past

@@ -24,6 +24,11 @@ pub data Up (w : ℕ) (t : List ℕ) : ℕ → ℕ → List ℕ → Type 0 where
   top : {m a : ℕ} → a ≡ no_parent → Up w t m a (a ∷ [])
   up : {m a : ℕ} {ancestors : List ℕ} → a < m → Up w t a (parent_in w t a) ancestors → Up w t m a (a ∷ ancestors)
 
+-- record a and its ancestors from the nearest to the farthest, before `end`, so many at most
+unfoldable pub up_to : ℕ → ℕ → List ℕ → ℕ → ℕ → List ℕ
+up_to zero w t end a = []
+up_to (suc k) w t end a = cond (eqb a end) [] (a ∷ up_to k w t end (parent_in w t a))
+
 -- a table has m records, or more
 pub record Holds (w : ℕ) (t : List ℕ) (m : ℕ) : Type 0 where
   pub wide : suc Parent ≤ w

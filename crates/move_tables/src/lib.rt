@@ -7,7 +7,7 @@ ghost use Rattle.lexer.specs.Outcome.{refused};
 ghost use Rattle.lexer.specs.Refusal.{number_of};
 ghost use Rattle.ast.specs.Column as C;
 ghost use Rattle.ast.specs.Records.{node_width, no_parent, chunks};
-ghost use Rattle.move_tables.specs.Moves.{narrow_width, among, bad_parent, bad_tenth, into, told, widens, narrows};
+ghost use Rattle.move_tables.specs.Moves.{narrow_width, most_records, among, bad_parent, bad_tenth, into, told, widens, narrows};
 ghost use Rattle.move_tables.specs.Walk.{parent_in, Holds, Stands, Passes, Good, Carries, Carried, Copies, Copied, Up, parents_from, ends, walk, writes, lower_bad, Checks, Wholes, Lays};
 
 use ast::{NO_PARENT, NODE_WIDTH, column};
@@ -30,84 +30,132 @@ fn refuse(kind: ErrorKind, place: u32, out: &mut [u32]) -> Refusal
     Refusal::at(kind, place)
 }
 
-// The parent of a record.
-fn parent(table: &[u32], width: usize, n: u32) -> u32
-    requires { Holds width table.now (suc n) }
-    ensures { result ≡ parent_in width table.now n }
-{
-    let at = n as usize * width + column::PARENT;
-    table[at]
-}
+// A table of records of so many numbers. Its records are known to be there, and are read without an Option, unlike those of `records::Table`; how many they are is found once, by `movable`, and handed on.
+#[derive(Clone, Copy)]
+struct Table<'a, const WIDTH: usize>(&'a [u32]);
 
-// Whether p is `at`, an ancestor of `at`, or 4294967295.
-fn reaches(table: &[u32], width: usize, below: u32, at: u32, p: u32) -> bool
-    requires { Stands width table.now below at }
-    ensures { (ancestors : List ℕ) → Up width table.now below at ancestors → result ≡ among p ancestors }
-{
-    let mut a = at;
-    // a chain of parents that ends at p, not a range: `while` is the plain form
-    while a != p {
-        if a == NO_PARENT {
-            return false;
-        }
-        a = parent(table, width, a);
+impl<'a, const WIDTH: usize> Table<'a, WIDTH> {
+    // The parent of a record.
+    fn parent(self, n: u32) -> u32
+        requires { Holds WIDTH self.0.now (suc n) }
+        ensures { result ≡ parent_in WIDTH self.entry.0.now n }
+    {
+        let at = n as usize * WIDTH + column::PARENT;
+        self.0[at]
     }
-    true
-}
 
-// The first record with a bad parent.
-fn bad_parent(table: &[u32], width: usize, count: u32) -> Option<u32>
-    requires { Holds width table.now count }
-    ensures { result ≡ bad_parent 0 (no_parent ∷ []) (parents_from width table.now count 0) }
-{
-    let mut at = NO_PARENT;
-    for n in 0..count {
-        let p = parent(table, width, n);
-        if !reaches(table, width, n, at, p) {
-            return Some(n);
-        }
-        at = n;
+    // Whether p is `at`, an ancestor of `at`, or 4294967295.
+    fn reaches(self, at: u32, p: u32) -> bool
+        requires { (m : ℕ) × Stands WIDTH self.0.now m at }
+        ensures { (m : ℕ) (ancestors : List ℕ) → m ≤ most_records → Up WIDTH self.entry.0.now m at ancestors → result ≡ among p ancestors }
+    {
+        let table = self;
+        let end = NO_PARENT;
+        p == NO_PARENT || (Ancestors { table, at, end }).any(|a| a == p)
     }
-    None
+
+    // The first record with a bad parent.
+    fn bad_parent(self, count: u32) -> Option<u32>
+        requires { Holds WIDTH self.0.now count }
+        ensures { result ≡ bad_parent 0 (no_parent ∷ []) (parents_from WIDTH self.entry.0.now count 0) }
+    {
+        let mut at = NO_PARENT;
+        for n in 0..count {
+            let p = self.parent(n);
+            if !self.reaches(at, p) {
+                return Some(n);
+            }
+            at = n;
+        }
+        None
+    }
+
+    // How many records it has, if it is movable; else a refusal at the first record that is not.
+    fn movable(self, out: &mut [u32]) -> Moved
+        requires { C.Parent < WIDTH }
+        ensures { Checks WIDTH self.entry.0.now result out.old out.new }
+    {
+        let count = self.0.len() / WIDTH;
+        if self.0.len() % WIDTH != 0 || MOST_RECORDS < count {
+            return Err(refuse(ErrorKind::NotMovable, 0, out));
+        }
+        let records = count as u32;
+        if let Some(bad) = self.bad_parent(records) {
+            return Err(refuse(ErrorKind::NotMovable, bad, out));
+        }
+        Ok(records)
+    }
 }
 
-// The lower one of `bad` and a, if a's tenth number is not n; else `bad`.
-fn lower_bad(table: &[u32], a: u32, n: u32, bad: u32) -> u32
-    requires { Holds node_width table.now (suc a) }
-    ensures { result ≡ lower_bad table.now n a bad }
+// Record `at` and its ancestors, from the nearest to the farthest, before `end`, which is one of them or 4294967295.
+#[derive(Drop)]
+struct Ancestors<'a, const WIDTH: usize> {
+    at: u32,
+    // between the two numbers, which are else held in one register and taken apart at each step
+    table: Table<'a, WIDTH>,
+    end: u32,
+}
+
+impl<const WIDTH: usize> Iterator for Ancestors<'_, WIDTH> {
+    ghost use Rattle.std.specs.Iterator.{YieldsFirst, item_count};
+    ghost use Rattle.move_tables.specs.Ancestors.{Climbs, left};
+
+    type Item = u32;
+
+    ghost can_next = { Climbs };
+
+    ghost next_gives = { YieldsFirst left };
+
+    ghost remaining = { item_count left };
+
+    fn next(&mut self) -> Option<u32> {
+        if self.at == self.end {
+            return None;
+        }
+        let a = self.at;
+        self.at = self.table.parent(a);
+        Some(a)
+    }
+}
+
+// The lower one of `bad` and a, if a's tenth number is not n; else `bad`. 4294967295 is none: with an Option a climb was measured 8 to 12 % slower.
+fn lower_bad(table: Table<NODE_WIDTH>, a: u32, n: u32, bad: u32) -> u32
+    requires { Holds node_width table.0.now (suc a) }
+    ensures { result ≡ lower_bad table.entry.0.now n a bad }
 {
     let at = a as usize * NODE_WIDTH + column::PAST;
-    if table[at] == n { bad } else { a.min(bad) }
+    if table.0[at] == n { bad } else { a.min(bad) }
 }
 
-// `at` and its ancestors before p have no descendant from record n on: the lowest of them whose tenth number is not n, or `bad` if that is lower.
-fn check_past(table: &[u32], at: u32, p: u32, n: u32, bad: u32) -> u32
-    requires { Passes node_width table.now n at p }
-    ensures { (ancestors : List ℕ) → Up node_width table.now n at ancestors → result ≡ ends (lower_bad table.now n) p ancestors bad }
+// These have no descendant from record n on: the lowest of them whose tenth number is not n, or `bad` if that is lower.
+fn check_past(ended: Ancestors<NODE_WIDTH>, n: u32, bad: u32) -> u32
+    requires { Passes node_width ended.table.0.now n ended.at ended.end }
+    ensures { (ancestors : List ℕ) → Up node_width ended.entry.table.0.now n ended.entry.at ancestors → result ≡ ends (lower_bad ended.entry.table.0.now n) ended.entry.end ancestors bad }
 {
-    let mut a = at;
+    let table = ended.table;
     let mut lowest = bad;
-    // a chain of parents that ends at p, not a range: `while` is the plain form
-    while a != p {
+    for a in ended {
         lowest = lower_bad(table, a, n, lowest);
-        a = parent(table, NODE_WIDTH, a);
     }
     lowest
 }
 
 // The first record with a bad tenth number.
-fn bad_tenth(table: &[u32], count: u32) -> Option<u32>
-    requires { Good node_width table.now count }
-    ensures { result ≡ bad_tenth 0 (chunks node_width count table.now) }
+// It, `bad_parent` and `write_pasts` each go over the records themselves. A `walk` that is given the step is no plainer: no type parameter stands for the output's `[u32]`, and the contract of `walk` would have to carry what the step asks of an output, its length.
+fn bad_tenth(table: Table<NODE_WIDTH>, count: u32) -> Option<u32>
+    requires { Good node_width table.0.now count }
+    ensures { result ≡ bad_tenth 0 (chunks node_width count table.entry.0.now) }
 {
+    // 4294967295 is none here too, for speed: see `lower_bad`
     let mut bad = NO_PARENT;
     let mut at = NO_PARENT;
     for n in 0..count {
-        let p = parent(table, NODE_WIDTH, n);
-        bad = check_past(table, at, p, n, bad);
+        let end = table.parent(n);
+        bad = check_past(Ancestors { table, at, end }, n, bad);
         at = n;
     }
-    let lowest = check_past(table, at, NO_PARENT, count, bad);
+    let end = NO_PARENT;
+    let lowest = check_past(Ancestors { table, at, end }, count, bad);
     if lowest == NO_PARENT {
         None
     } else {
@@ -115,32 +163,30 @@ fn bad_tenth(table: &[u32], count: u32) -> Option<u32>
     }
 }
 
-// `at` and its ancestors before p have no descendant from record n on: n is their tenth number.
-fn write_past(table: &[u32], out: &mut [u32], at: u32, p: u32, n: u32)
-    requires { (Passes narrow_width table.now n at p) × (n * node_width ≤ length out.old) }
-    ensures { (ancestors : List ℕ) → Up narrow_width table.now n at ancestors → out.new ≡ ends (writes n) p ancestors out.old }
+// These have no descendant from record n on: n is their tenth number.
+fn write_past(ended: Ancestors<NARROW_WIDTH>, n: u32, out: &mut [u32])
+    requires { (Passes narrow_width ended.table.0.now n ended.at ended.end) × (n * node_width ≤ length out.old) }
+    ensures { (ancestors : List ℕ) → Up narrow_width ended.entry.table.0.now n ended.entry.at ancestors → out.new ≡ ends (writes n) ended.entry.end ancestors out.old }
 {
-    let mut a = at;
-    // a chain of parents that ends at p, not a range: `while` is the plain form
-    while a != p {
+    for a in ended {
         let k = a as usize * NODE_WIDTH + column::PAST;
         out[k] = n;
-        a = parent(table, NARROW_WIDTH, a);
     }
 }
 
 // The tenth number of each record.
-fn write_pasts(table: &[u32], out: &mut [u32], count: u32)
-    requires { (Good narrow_width table.now count) × (count * node_width ≤ length out.old) }
-    ensures { out.new ≡ walk writes 0 (no_parent ∷ []) (parents_from narrow_width table.now count 0) out.old }
+fn write_pasts(table: Table<NARROW_WIDTH>, out: &mut [u32], count: u32)
+    requires { (Good narrow_width table.0.now count) × (count * node_width ≤ length out.old) }
+    ensures { out.new ≡ walk writes 0 (no_parent ∷ []) (parents_from narrow_width table.entry.0.now count 0) out.old }
 {
     let mut at = NO_PARENT;
     for n in 0..count {
-        let p = parent(table, NARROW_WIDTH, n);
-        write_past(table, out, at, p, n);
+        let end = table.parent(n);
+        write_past(Ancestors { table, at, end }, n, out);
         at = n;
     }
-    write_past(table, out, at, NO_PARENT, count);
+    let end = NO_PARENT;
+    write_past(Ancestors { table, at, end }, count, out);
 }
 
 // The first nine numbers of a record.
@@ -151,43 +197,32 @@ fn copy_record(table: &[u32], from: usize, out: &mut [u32], to: usize)
     out[to..to + NARROW_WIDTH].copy_from_slice(&table[from..from + NARROW_WIDTH]);
 }
 
-// The first nine numbers of each record, from records of `old` numbers to records of `new`.
-fn copy(table: &[u32], old: usize, out: &mut [u32], new: usize, count: usize)
-    requires { Copies table.now old out.old new count }
-    ensures { Copied table.now old new count out.old out.new }
+// The first nine numbers of each record, from records of OLD numbers to records of NEW.
+// By indexes: `chunks_exact` zipped with `chunks_exact_mut` was tried, and the proof did not close: std says of `chunks_exact_mut`, as of `as_chunks_mut`, only what it lends, not what the slice is afterwards.
+fn copy<const OLD: usize, const NEW: usize>(table: Table<OLD>, out: &mut [u32], count: usize)
+    requires { Copies table.0.now OLD out.old NEW count }
+    ensures { Copied table.entry.0.now OLD NEW count out.old out.new }
 {
     for n in 0..count {
-        copy_record(table, n * old, out, n * new);
+        copy_record(table.0, n * OLD, out, n * NEW);
     }
-}
-
-// How many records a table of so many numbers each has, if it is movable; else a refusal at the first record that is not.
-fn movable(table: &[u32], width: usize, out: &mut [u32]) -> Moved
-    requires { C.Parent < width }
-    ensures { Checks width table.now result out.old out.new }
-{
-    let count = table.len() / width;
-    if table.len() % width != 0 || MOST_RECORDS < count {
-        return Err(refuse(ErrorKind::NotMovable, 0, out));
-    }
-    let records = count as u32;
-    if let Some(bad) = bad_parent(table, width, records) {
-        return Err(refuse(ErrorKind::NotMovable, bad, out));
-    }
-    Ok(records)
 }
 
 // The first nine numbers of each record, and 0 behind them, if the output holds so many records; the tenth ones are left.
-fn lay(table: &[u32], old: usize, out: &mut [u32], new: usize, records: u32) -> Moved
-    requires { Wholes table.now old new records }
-    ensures { Lays table.now old new records result out.old out.new }
+fn lay<const OLD: usize, const NEW: usize>(
+    table: Table<OLD>,
+    out: &mut [u32],
+    records: u32,
+) -> Moved
+    requires { Wholes table.0.now OLD NEW records }
+    ensures { Lays table.entry.0.now OLD NEW records result out.old out.new }
 {
     let count = records as usize;
-    let needed = count * new;
+    let needed = count * NEW;
     if out.len() < needed {
         return Err(refuse(ErrorKind::NodesFull, 0, out));
     }
-    copy(table, old, out, new, count);
+    copy::<OLD, NEW>(table, out, count);
     ast::clear(out, needed);
     Ok(records)
 }
@@ -196,9 +231,10 @@ fn lay(table: &[u32], old: usize, out: &mut [u32], new: usize, records: u32) -> 
 pub fn widen(table: &[u32], out: &mut [u32]) -> Moved
     ensures { told result out.new ≡ widens table.now out.old }
 {
-    let records = movable(table, NARROW_WIDTH, out)?;
-    lay(table, NARROW_WIDTH, out, NODE_WIDTH, records)?;
-    write_pasts(table, out, records);
+    let narrow = Table::<NARROW_WIDTH>(table);
+    let records = narrow.movable(out)?;
+    lay::<NARROW_WIDTH, NODE_WIDTH>(narrow, out, records)?;
+    write_pasts(narrow, out, records);
     Ok(records)
 }
 
@@ -206,9 +242,10 @@ pub fn widen(table: &[u32], out: &mut [u32]) -> Moved
 pub fn narrow(table: &[u32], out: &mut [u32]) -> Moved
     ensures { told result out.new ≡ narrows table.now out.old }
 {
-    let records = movable(table, NODE_WIDTH, out)?;
-    if let Some(wrong) = bad_tenth(table, records) {
+    let wide = Table::<NODE_WIDTH>(table);
+    let records = wide.movable(out)?;
+    if let Some(wrong) = bad_tenth(wide, records) {
         return Err(refuse(ErrorKind::NotMovable, wrong, out));
     }
-    lay(table, NODE_WIDTH, out, NARROW_WIDTH, records)
+    lay::<NODE_WIDTH, NARROW_WIDTH>(wide, out, records)
 }

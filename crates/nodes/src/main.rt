@@ -3,7 +3,7 @@
 
 ghost use Rattle.std.specs.Prelude.{◌<◌};
 
-use lexer::error::Refusal;
+use ast::{COMMENT_WIDTH, NODE_WIDTH};
 use std::io::Stdout;
 use std::{fmt, io};
 
@@ -29,11 +29,11 @@ impl fmt::Display for Row<'_> {
     }
 }
 
-// Writes the first `count` records of `width` numbers, those that the table holds.
-fn write_records(out: Stdout, table: &[u32], width: usize, count: u32) -> io::Result<()>
-    requires { 0 < width }
+// Writes the first `count` records of WIDTH numbers, those that the table holds.
+fn write_records<const WIDTH: usize>(out: Stdout, table: &[u32], count: u32) -> io::Result<()>
+    requires { 0 < WIDTH }
 {
-    for record in table.chunks_exact(width).take(count as usize) {
+    for record in table.chunks_exact(WIDTH).take(count as usize) {
         println!(out; "{}", Row(record))?;
     }
     Ok(())
@@ -44,17 +44,11 @@ fn write_reading(out: Stdout, text: &[u8]) -> io::Result<()> {
     let mut nodes: [u32; 9000] = [0; 9000];
     let mut comments: [u32; 4500] = [0; 4500];
     match reader::read(text, &mut nodes, &mut comments) {
-        Err(
-            Refusal {
-                kind,
-                place,
-                length,
-            },
-        ) => println!(out; "R {} {place} {length}", kind.number()),
+        Err(refusal) => println!(out; "R {refusal}"),
         Ok(counts) => {
             println!(out; "{} {}", counts.nodes, counts.comments)?;
-            write_records(out, &nodes, ast::NODE_WIDTH, counts.nodes)?;
-            write_records(out, &comments, ast::COMMENT_WIDTH, counts.comments)
+            write_records::<NODE_WIDTH>(out, &nodes, counts.nodes)?;
+            write_records::<COMMENT_WIDTH>(out, &comments, counts.comments)
         }
     }
 }

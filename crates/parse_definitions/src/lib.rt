@@ -108,7 +108,7 @@ fn parse_const(p: &mut Parser) -> Parsed
     ensures { Reads (λ x. const_in x.text x.base) p.old p.new result }
 {
     define(p, Kind::Const, parse_constant)?;
-    p.skip_comments(true);
+    p.skip_trivia();
     Ok(())
 }
 
@@ -126,6 +126,7 @@ fn parse_typedef(p: &mut Parser) -> Parsed
     define(p, Kind::Typedef, parse_alias)
 }
 
+// The bodies of enums, structures and services: a name, members, annotations. Each is its production in rico's order; one for all would take the name's error and the members' reader, and say no more.
 fn parse_enum_body(p: &mut Parser, parent: u32) -> Parsed
     ensures { Reads (λ x. enum_body_in x.text x.base parent) p.old p.new result }
 {
@@ -163,10 +164,9 @@ fn parse_structure(p: &mut Parser, kind: Kind) -> Parsed
 fn parse_extends(p: &mut Parser, parent: u32) -> Parsed
     ensures { Reads (λ x. extends_in x.text x.base parent) p.old p.new result }
 {
-    if !p.is(Token::Extends) {
+    if !p.accept(Token::Extends) {
         return Ok(());
     }
-    p.advance();
     parse_fields::parse_name(p, ErrorKind::MissingServiceExtends, parent)
 }
 

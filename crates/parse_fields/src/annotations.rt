@@ -48,7 +48,7 @@ fn parse_annotation_list(p: &mut Parser, parent: u32) -> Parsed
         Token::RightParen,
         |p: &mut Parser|
             ensures { Does (λ x. skip_in x.text false) p.entry.now p.exit.now }
-        { p.skip(false) },
+        { p.skip_comments_discard() },
         |p: &mut Parser| -> Parsed
             ensures { Reads (λ x. annotation_in x.text x.base parent) p.entry.now p.exit.now result }
         { parse_annotation(p, parent) },

@@ -35,12 +35,13 @@ fn parse_field_id(p: &mut Parser, parent: u32) -> Parsed
 fn required_flag(p: &Parser) -> u32
     ensures { result ≡ required_of (code_of p.now.state) }
 {
-    if p.is(Token::Required) {
-        flag::REQUIRED
-    } else if p.is(Token::Optional) {
-        flag::OPTIONAL
-    } else {
-        0
+    let Some(token) = p.state.token else {
+        return 0;
+    };
+    match token {
+        Token::Required => flag::REQUIRED,
+        Token::Optional => flag::OPTIONAL,
+        _ => 0,
     }
 }
 
@@ -104,10 +105,9 @@ fn parse_field_name(p: &mut Parser, parent: u32) -> Parsed
 fn parse_default(p: &mut Parser, parent: u32) -> Parsed
     ensures { Reads (λ x. default_in x.text x.base parent) p.old p.new result }
 {
-    if !p.is(Token::Equals) {
+    if !p.accept(Token::Equals) {
         return Ok(());
     }
-    p.advance();
     values::parse_value(p, NESTING, parent)
 }
 
@@ -150,8 +150,8 @@ fn parse_field(p: &mut Parser, flag: u32, parent: u32) -> Parsed
 pub fn skip_member(p: &mut Parser)
     ensures { Does (λ x. skip_member_in x.text) p.old p.new }
 {
-    p.skip(true);
-    p.skip_comments(false);
+    p.skip_separators();
+    p.skip_comments();
 }
 
 // Members from one bracket to another.

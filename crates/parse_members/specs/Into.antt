@@ -25,9 +25,6 @@ flag_if k w f = cond (eqb k w) f 0
 unfoldable pub skip_oneway : List ℕ → State → State
 skip_oneway text st = cond (eqb (code_of st) T.Oneway) (advanced text st) st
 
-unfoldable pub skip_oneway_in : List ℕ → M
-skip_oneway_in text st t u = done (skip_oneway text st) t u
-
 unfoldable pub function_head_in : List ℕ → ℕ → ℕ → M
 function_head_in text b p st t u = after (return_type_in text b p (skip_oneway text st) t u) (name_in text E.UnexpectedToken b p)
 

@@ -26,10 +26,9 @@ const INTEGER: Leaf = Leaf {
 fn parse_initializer(p: &mut Parser, parent: u32) -> Parsed
     ensures { Reads (λ x. initializer_in x.text x.base parent) p.old p.new result }
 {
-    if !p.is(Token::Equals) {
+    if !p.accept(Token::Equals) {
         return Ok(());
     }
-    p.advance();
     if p.is(Token::HexLiteral) {
         return parse_fields::parse_leaf(p, HEX, parent);
     }

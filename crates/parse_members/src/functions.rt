@@ -3,7 +3,7 @@ ghost use Rattle.std.specs.Prelude.{◌≡◌};
 ghost use Rattle.token.specs.Code.{code};
 ghost use Rattle.steps.specs.Into.{code_of};
 ghost use Rattle.steps.specs.Reads.{Does, Reads};
-ghost use Rattle.parse_members.specs.Into.{throws_in, return_type_in, flag_if, skip_oneway_in, function_head_in, function_tail_in, function_in, functions_in};
+ghost use Rattle.parse_members.specs.Into.{throws_in, return_type_in, flag_if, function_head_in, function_tail_in, function_in, functions_in};
 
 use ast::flag;
 use ast::kind::Kind;
@@ -20,10 +20,9 @@ use token::Token;
 fn parse_throws(p: &mut Parser, parent: u32) -> Parsed
     ensures { Reads (λ x. throws_in x.text x.base parent) p.old p.new result }
 {
-    if !p.is(Token::Throws) {
+    if !p.accept(Token::Throws) {
         return Ok(());
     }
-    p.advance();
     fields::parse_fields(p, fields::THROWN, parent)
 }
 
@@ -32,10 +31,9 @@ fn parse_throws(p: &mut Parser, parent: u32) -> Parsed
 fn parse_return_type(p: &mut Parser, parent: u32) -> Parsed
     ensures { Reads (λ x. return_type_in x.text x.base parent) p.old p.new result }
 {
-    if !p.is(Token::Void) {
+    if !p.accept(Token::Void) {
         return types::parse_type(p, NESTING, parent);
     }
-    p.advance();
     p.put_leaf(Kind::KeywordType, parent);
     Ok(())
 }
@@ -47,20 +45,11 @@ fn flag_if(p: &Parser, token: Token, flag: u32) -> u32
     if p.is(token) { flag } else { 0 }
 }
 
-// Past `oneway`, if it is there.
-fn skip_oneway(p: &mut Parser)
-    ensures { Does (λ x. skip_oneway_in x.text) p.old p.new }
-{
-    if p.is(Token::Oneway) {
-        p.advance();
-    }
-}
-
 // The return type and the name of a function.
 fn parse_function_head(p: &mut Parser, parent: u32) -> Parsed
     ensures { Reads (λ x. function_head_in x.text x.base parent) p.old p.new result }
 {
-    skip_oneway(p);
+    p.accept(Token::Oneway);
     parse_return_type(p, parent)?;
     parse_fields::parse_name(p, ErrorKind::UnexpectedToken, parent)
 }
@@ -70,7 +59,7 @@ fn parse_function_tail(p: &mut Parser, parent: u32) -> Parsed
     ensures { Reads (λ x. function_tail_in x.text x.base parent) p.old p.new result }
 {
     parse_throws(p, parent)?;
-    p.skip_comments(true);
+    p.skip_trivia();
     annotations::parse_annotations(p, parent)
 }
 

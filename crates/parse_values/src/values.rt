@@ -98,11 +98,11 @@ fn parse_map_value(p: &mut Parser, depth: u32, parent: u32) -> Parsed
 fn skip_both(p: &mut Parser)
     ensures { Does (λ x. skip_both_in x.text) p.old p.new }
 {
-    p.skip(true);
-    p.skip(false);
+    p.skip_separators();
+    p.skip_comments_discard();
 }
 
-// The elements up to the closing bracket, and that.
+// The elements up to the closing bracket, and that; apart from the properties as the list's reader is from the map's.
 // List ::= '[' (Separator* Comment* Value)* Separator* Comment* ']'
 #[cycle(values)]
 fn parse_elements(p: &mut Parser, depth: u32, parent: u32) -> Parsed

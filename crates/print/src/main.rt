@@ -72,7 +72,7 @@ fn write_refusal(rt: &HostRuntime, text: &[u8], refusal: Refusal) -> io::Result<
     let at = place::find(text, place);
     eprintln!(rt;
         "refused {} at {}:{}: {kind}",
-        kind.number(),
+        u32::from(kind),
         at.line,
         at.column
     )

@@ -4,7 +4,6 @@
 
 ghost use Rattle.std.specs.Prelude.{◌≤◌};
 
-use lexer::error::Refusal;
 use std::io;
 use std::io::Stdout;
 use writer::{Print, Printed};
@@ -50,14 +49,8 @@ impl Printing<'_> {
                 self.write_past(to, nodes, comments, bytes)?;
                 to.write_all(self.out.get(..bytes).unwrap_or(&[]))
             }
-            Err(
-                Refusal {
-                    kind,
-                    place,
-                    length,
-                },
-            ) => {
-                print!(to; "R {} {place} {length}", kind.number())?;
+            Err(refusal) => {
+                print!(to; "R {refusal}")?;
                 self.write_past(to, 0, 0, 0)
             }
         }

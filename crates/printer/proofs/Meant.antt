@@ -6,11 +6,11 @@ use mathlib.Core.Path.{◌≡◌, refl, sym, ap, ◌∙◌}
 use mathlib.Core.Logic.{inl, ⊎_elim}
 use mathlib.Core.Bool.{Bool, true, false, cond}
 use mathlib.Core.List.{List, [], ◌∷◌, ◌++◌, append-nil, append_assoc}
-use Prim.Native.Nat.{ℕ, suc, ◌+◌, ◌*◌, ◌-◌, ◌/◌, ◌≤◌, ◌<◌}
-use native.Mathlib.Nat.{le-div_iff_mul-le, mul-div_cancel}
+use Prim.Native.Nat.{ℕ, suc, ◌+◌, ◌*◌, ◌-◌, ◌≤◌, ◌<◌}
+use native.Mathlib.Nat.{mul-div_cancel}
 use native.Mathlib.Omega.{arith}
 use lib.Dec.{ltb}
-use lib.ListN.{length, take, drop, replicate, length-append, length-drop, length-replicate}
+use lib.ListN.{length, take, drop, replicate, length-append, length-drop}
 use lib.Seq.{take-append_seam}
 use borrow.Author.Tests.{ltb-false, lt-ltb, le-ltb}
 use Rattle.lexer.specs.Outcome.{Outcome, accepted, refused}
@@ -19,7 +19,7 @@ use Rattle.ast.specs.Lists.{All, anil, acons}
 use Rattle.ast.specs.Ast.{Definition}
 use Rattle.ast.specs.Tree.{Tree, node, Forest, bare, grown, each, definition_tree}
 use Rattle.ast.specs.Records.{comment_width, node_width, no_parent, node_row, size, rows, rows_of, comment_row, owned, comment_rows, comment_rows_of, forest, node_rows, notes, room, concat, filled, cleared}
-use Rattle.ast.proofs.Counts.{Wide, node_rows_wide, notes_wide, concat_width, filled_length, cleared_same}
+use Rattle.ast.proofs.Counts.{Wide, node_rows_wide, notes_wide, concat_width, cleared_same}
 use Rattle.parser.specs.Read as R
 use Rattle.parser.specs.Read.{outcome, left, rows_by, reading}
 use Rattle.steps.specs.Into.{rest_at, wiped}
@@ -30,6 +30,7 @@ use Rattle.parser.proofs.Taken.{taken_means}
 use Rattle.parser.proofs.Paid.{nodes_most, notes_most}
 use Rattle.writer.specs.Print.{bytes_of, pieces, printed}
 use Rattle.writer.specs.Write.{outcome_at, fitted_out, answer, written, print_of, Printing, printing}
+use Rattle.records.proofs.RecordLaws.{cleared_twice, filled_long, filled_room}
 use Rattle.cursor.specs.Onto.{Reached}
 use Rattle.printer.specs.Onto.{opening, refusing, fits, ended, used, writing, by_answer, by_reading, all}
 use Rattle.write_fields.proofs.Ahead.{Rows, under, unders, owned_before, noted, noteds, Ahead, Fits, Over, Got, got, Job, At}
@@ -95,21 +96,14 @@ module _ {w : ℕ} (some : 0 < w) {rs : Rows} (wide : All (Wide w) rs) where
 
   -- that the table has room for
   module _ (t : List ℕ) (e : ltb (room w t) (length rs) ≡ false) where
-    in_table : length (concat rs) ≤ length t
-    unfolding room
-    in_table = rw (concat_width wide) ((le-div_iff_mul-le {k = w} {x = length rs} {y = length t} some).0 (ltb-false (length t / w) (length rs) e))
-
-    fills : length (filled rs t) ≡ length t
-    fills = filled_length rs t in_table
-
     -- and the part of it that they fill
     used_end : rest_at (length rs * w) (length (filled rs t)) ≡ length (concat rs)
     unfolding rest_at
-    used_end = rw (sym (concat_width wide), fills) (go (ltb (length (concat rs)) (length t)) refl)
+    used_end = rw (sym (concat_width wide), filled_long some wide t e) (go (ltb (length (concat rs)) (length t)) refl)
       where
         go : (b : Bool) → ltb (length (concat rs)) (length t) ≡ b → cond b (length (concat rs)) (length t) ≡ length (concat rs)
         go true h = refl
-        go false h = omega (arith, in_table, ltb-false (length (concat rs)) (length t) h)
+        go false h = omega (arith, filled_room some wide t e, ltb-false (length (concat rs)) (length t) h)
 
     used_filled : used w (length rs) (filled rs t) ≡ concat rs
     unfolding used filled
@@ -126,10 +120,6 @@ unfolding comment_width
 some_comment = omega arith
 
 -- ---- what is lent and cleared again
-
-cleared_twice : (t : List ℕ) → cleared (cleared t) ≡ cleared t
-unfolding cleared
-cleared_twice t = cleared_same t (replicate (length t) 0) (length-replicate (length t) 0)
 
 -- an answer, both tables and the output
 abbrev made : Outcome (List ℕ) → List ℕ → List ℕ → List ℕ → Printing
@@ -194,10 +184,10 @@ module _ (text : List ℕ) (indent : ℕ) (t u o : List ℕ) (ds : List Definiti
       }
 
   t_long : length (filled (node_rows ds) t) ≡ length t
-  t_long = fills some_node (node_rows_wide ds) t t-room
+  t_long = filled_long some_node (node_rows_wide ds) t t-room
 
   u_long : length (filled (notes ds) u) ≡ length u
-  u_long = fills some_comment (notes_wide ds) u u-room
+  u_long = filled_long some_comment (notes_wide ds) u u-room
 
   -- the answer, by whether the print fits
   abbrev result : Printing

@@ -1,5 +1,6 @@
 -- The writing of both tables, and the whole printing, in code.
---     refused_is, fits_is          all wiped; the output wiped behind the print
+--     refuses, handed              all wiped; what is lent, by the names that it was lent under
+--     fits_is, over_is             the output wiped behind the print; 27
 --     written_is                   what the writing of the document left, if it fits
 --     all_long, all_wide           20 and 26
 --     all_refused, all_accepted    the reading refused the text, and the reading accepted it
@@ -12,34 +13,45 @@ use Rattle.ast.specs.Clear.{Cleared}
 use Rattle.ast.specs.Records.{comment_width, node_width, room}
 use Rattle.ast.proofs.ClearLaws.{cleared_by}
 use Rattle.std.specs.Prelude.{Ok, Err}
-use Rattle.lexer.specs.Refusal.{number_of, said_by}
+use Rattle.lexer.specs.Refusal.{said_by}
 use Rattle.lexer.specs.declared.error.Refusal.{Refusal}
 use Rattle.parser.specs.declared.Counts.{Counts}
 use Rattle.parser.specs.Read.{Answer}
 use Rattle.parser.specs.Read.{Reading, reading, said, told as read_told}
 use Rattle.steps.specs.Into.{rest_at, wiped}
 use Rattle.steps.proofs.Cells.{wipe_all}
-use Rattle.lexer.specs.Outcome.{accepted, refused}
-use Rattle.writer.specs.Write.{Printing}
+use Rattle.lexer.specs.Outcome.{accepted}
+use Rattle.writer.specs.Write.{Printed, Printing, told}
+use Rattle.reader.specs.declared.Lent.{Lent}
+use Rattle.reader.specs.Refuses.{Refuses}
+use Rattle.std.specs.Result.{IsErr, IsErrAnd}
+use Rattle.std.proofs.lemmas.Result.{err_from_is_err_and}
 use Rattle.cursor.specs.declared.Cursor.{Cursor}
 use Rattle.cursor.specs.Onto.{Reached, reached}
 use Rattle.write_definitions.specs.Onto.{document_out}
-use Rattle.printer.specs.Onto.{opening, refusing, fits, ended, used, writing, by_answer, by_reading, all}
+use Rattle.printer.specs.Onto.{opening, refusing, judged, fits, ended, used, writing, by_answer, by_reading, all}
 
 -- what clear leaves
 as_wiped : (i : ℕ) (o o' : List ℕ) → Cleared (λ x. x ≡ 0) i o o' → o' ≡ wiped i o
 unfolding wiped
 as_wiped = cleared_by 0
 
-pub refused_is : (e p n : ℕ) (t u o t' u' o' : List ℕ) → t' ≡ wiped 0 t → u' ≡ wiped 0 u → Cleared (λ x. x ≡ 0) 0 o o'
-    → record { says = refused e p n; nodes = t'; comments = u'; output = o' } ≡ refusing e p n t u o
-unfolding refusing
-refused_is e p n t u o t' u' o' h k l = rw (h, k, as_wiped 0 o o' l, wipe_all, wipe_all, wipe_all)
+pub refuses : {s t : Lent ℕ} {r : Printed} {f : Refusal} → Refuses (λ x. x ≡ 0) f s t r
+    → told r t.nodes.now t.comments.now t.out.now ≡ judged (Err f) s.nodes.now s.comments.now s.out.now
+unfolding judged refusing said_by
+refuses {s} {t} w = rw (w.says, w.nodes, w.comments, as_wiped 0 s.out.now t.out.now w.out, wipe_all)
+
+pub handed : (X : Printing) (p : Printed) (t t' u u' o o' : List ℕ) → told p t u o ≡ X → t' ≡ t → u' ≡ u → o' ≡ o → told p t' u' o' ≡ X
+handed X p t t' u u' o o' e h k l = rw (h, k, l) e
 
 pub fits_is : (n c len : ℕ) (t u o o' : List ℕ) → len ≤ length o → Cleared (λ x. x ≡ 0) len o o'
     → record { says = accepted (n ∷ c ∷ len ∷ []); nodes = t; comments = u; output = o' } ≡ fits n c len t u o
 unfolding fits
 fits_is n c len t u o o' h e = rw (le-ltb (length o) len h, as_wiped len o o' e)
+
+pub over_is : (n c len : ℕ) (t u o : List ℕ) → length o < len → refusing 27 0 0 t u o ≡ fits n c len t u o
+unfolding fits
+over_is n c len t u o h = rw (lt-ltb (length o) len h)
 
 pub written_is : (text : List ℕ) (indent n c : ℕ) (t u o o' : List ℕ) (p : Cursor) (r : Printing) (a b : ℕ) → a ≡ rest_at (n * node_width) (length t) → b ≡ rest_at (c * comment_width) (length u)
     → reached p o' ≡ document_out text (take a t) (room node_width (take a t)) (take b u) (room comment_width (take b u)) indent (record { node = 0; comment = 0; length = 0 }) o
@@ -61,9 +73,12 @@ module _ (text : List ℕ) (indent : ℕ) (t u o : List ℕ) where
     unfolding all by_reading
     all_read = ap (λ (r : Reading). by_reading r text indent o) e ∙ rw (le-ltb _ _ h, le-ltb _ _ k)
 
-    pub all_refused : (r : Refusal) → a ≡ Err r → refusing (number_of r.kind) r.place r.length t₁ u₁ o ≡ all text indent t u o
-    unfolding by_answer said_by
-    all_refused r f = ap (λ (x : Answer). by_answer (said x) text indent t₁ u₁ o) (sym f) ∙ all_read
+    pub all_refused : (r : Refusal) → a ≡ Err r → (p : Printed) → IsErr p × IsErrAnd p (λ z. z ≡ r) → judged p t₁ u₁ o ≡ all text indent t u o
+    unfolding judged by_answer said_by
+    all_refused r f p g =
+        let w = err_from_is_err_and p g.1 in
+        let e : p ≡ Err r = cc in
+        rw e (ap (λ (x : Answer). by_answer (said x) text indent t₁ u₁ o) (sym f) ∙ all_read)
 
     pub all_accepted : (c : Counts) → a ≡ Ok c → writing text indent c.nodes c.comments t₁ u₁ o ≡ all text indent t u o
     unfolding by_answer said_by

@@ -7,7 +7,9 @@ use Rattle.ast.specs.Records.{comment_width, node_width, room, cleared}
 use Rattle.parser.specs.Read.{Reading, reading}
 use Rattle.steps.specs.Into.{rest_at, wiped}
 use Rattle.lexer.specs.Limit.{limit}
-use Rattle.writer.specs.Write.{widest, Printing}
+use Rattle.std.specs.Prelude.{Ok, Err}
+use Rattle.lexer.specs.Refusal.{number_of}
+use Rattle.writer.specs.Write.{widest, Printed, Printing, told}
 use Rattle.cursor.specs.declared.Cursor.{Cursor}
 use Rattle.cursor.specs.Onto.{Reached, reached}
 use Rattle.write_definitions.specs.Onto.{document_out}
@@ -19,6 +21,11 @@ opening = record { node = 0; comment = 0; length = 0 }
 
 unfoldable pub refusing : ℕ → ℕ → ℕ → List ℕ → List ℕ → List ℕ → Printing
 refusing e p n t u o = record { says = refused e p n; nodes = cleared t; comments = cleared u; output = cleared o }
+
+-- what is left once a refusal has wiped everything
+unfoldable pub judged : Printed → List ℕ → List ℕ → List ℕ → Printing
+judged (Ok p) t u o = told (Ok p) t u o
+judged (Err r) t u o = refusing (number_of r.kind) r.place r.length t u o
 
 -- what was printed, if the output held it
 unfoldable pub fits : ℕ → ℕ → ℕ → List ℕ → List ℕ → List ℕ → Printing

@@ -2,56 +2,26 @@
 #![tactic(auto)]
 
 ghost use Rattle.std.specs.Prelude.{◌≡◌};
-ghost use Rattle.lexer.specs.Refusal.{number_of};
 ghost use Rattle.writer.specs.Write.{told, printing};
-ghost use Rattle.printer.specs.Onto.{refusing, fits, writing};
+ghost use Rattle.printer.specs.Onto.{judged, fits, writing};
 
 use cursor::{Cursor, Writer};
 use lexer::error::{ErrorKind, Refusal};
 use parser::Counts;
+use reader::Lent;
 use steps::table;
 use writer::{Print, Printed};
 
-fn refuse(refusal: Refusal, nodes: &mut [u32], comments: &mut [u32], out: &mut [u8]) -> Printed
-    ensures { told result nodes.new comments.new out.new ≡ refusing (number_of refusal.kind) refusal.place refusal.length nodes.old comments.old out.old }
-{
-    ast::clear(nodes, 0);
-    ast::clear(comments, 0);
-    ast::clear(out, 0);
-    Err(refusal)
-}
-
-// What was printed, if the output held it: else 27.
-fn fit(
-    counts: Counts,
-    bytes: usize,
-    nodes: &mut [u32],
-    comments: &mut [u32],
-    out: &mut [u8],
-) -> Printed
-    ensures { told result nodes.new comments.new out.new ≡ fits counts.nodes counts.comments bytes nodes.old comments.old out.old }
-{
-    if out.len() < bytes {
-        return refuse(Refusal::at(ErrorKind::OutputFull, 0), nodes, comments, out);
-    }
-    ast::clear(out, bytes);
-    Ok(Print {
-        nodes: counts.nodes,
-        comments: counts.comments,
-        bytes,
-    })
-}
-
-// Writes the definitions of both tables.
+// Writes the definitions of both tables; how many bytes they take, one more than the output holds where they did not fit, as the writer's cursor has it.
 fn write(
     text: &[u8],
     indent: u32,
     counts: Counts,
-    nodes: &mut [u32],
-    comments: &mut [u32],
+    nodes: &[u32],
+    comments: &[u32],
     out: &mut [u8],
-) -> Printed
-    ensures { told result nodes.new comments.new out.new ≡ writing text.now indent counts.nodes counts.comments nodes.old comments.old out.old }
+) -> usize
+    ensures { fits counts.nodes counts.comments result nodes.now comments.now out.new ≡ writing text.now indent counts.nodes counts.comments nodes.now comments.now out.old }
 {
     let last = table::rest_at(counts.nodes as usize * ast::NODE_WIDTH, nodes.len());
     let end = table::rest_at(
@@ -71,8 +41,36 @@ fn write(
         },
     };
     write_definitions::write_document(&mut writer);
-    let bytes = writer.at.length;
-    fit(counts, bytes, nodes, comments, out)
+    writer.at.length
+}
+
+// The print; at a refusal nothing is wiped yet. In parts, as `write`: parts of what a struct holds can't yet be lent together with its output.
+fn try_print(
+    text: &[u8],
+    indent: u32,
+    nodes: &mut [u32],
+    comments: &mut [u32],
+    out: &mut [u8],
+) -> Printed
+    ensures { judged result nodes.new comments.new out.new ≡ printing text.now indent nodes.old comments.old out.old }
+{
+    if lexer::LIMIT < text.len() {
+        return Err(Refusal::at(ErrorKind::TextTooLong, 0));
+    }
+    if writer::WIDEST < indent {
+        return Err(Refusal::at(ErrorKind::IndentTooWide, 0));
+    }
+    let counts = reader::read(text, nodes, comments)?;
+    let bytes = write(text, indent, counts, nodes, comments, out);
+    if out.len() < bytes {
+        return Err(Refusal::at(ErrorKind::OutputFull, 0));
+    }
+    ast::clear(out, bytes);
+    Ok(Print {
+        nodes: counts.nodes,
+        comments: counts.comments,
+        bytes,
+    })
 }
 
 // Prints a text at an indent: reads it into both tables, then writes its definitions.
@@ -85,19 +83,15 @@ pub fn print(
 ) -> Printed
     ensures { told result nodes.new comments.new out.new ≡ printing text.now indent nodes.old comments.old out.old }
 {
-    if lexer::LIMIT < text.len() {
-        return refuse(Refusal::at(ErrorKind::TextTooLong, 0), nodes, comments, out);
-    }
-    if writer::WIDEST < indent {
-        return refuse(
-            Refusal::at(ErrorKind::IndentTooWide, 0),
-            nodes,
-            comments,
-            out,
-        );
-    }
-    match reader::read(text, nodes, comments) {
-        Err(refusal) => refuse(refusal, nodes, comments, out),
-        Ok(counts) => write(text, indent, counts, nodes, comments, out),
+    match try_print(text, indent, nodes, comments, out) {
+        Ok(print) => Ok(print),
+        Err(refusal) => {
+            let mut lent = Lent {
+                nodes,
+                comments,
+                out,
+            };
+            lent.refuse(refusal)
+        }
     }
 }

@@ -1,9 +1,10 @@
 -- The document and the whole reading in code.
+--     gives, gives_on       what a call gives, by what else it is; of tables that are lent on
 --     with_state, without_state, refused_with, refused_without   an answer that has the state, and one that does not
 --     handed                the tables, by the names that they were lent under
 --     all_read              the first token, and then all of the text
 --     rest_is               a definition that was lent the unused rest of the table
---     parse_unknown         22
+--     parse_unknown         22, of a text that is parsed
 --     parse_judged          what the grammar finds
 --     read_long, read_ill, read_unknown   20, 21 and 22
 use mathlib.Core.Path.{◌≡◌, refl, sym, ap, ap₂, ◌∙◌}
@@ -28,15 +29,21 @@ use Rattle.steps.specs.Reads.{Parsed, tells, Reads, Does}
 use Rattle.steps.proofs.Chain.{begins, kept, last}
 use Rattle.std.specs.declared.result.Result.{Result}
 use Rattle.steps.specs.declared.state.Raised.{Raised}
-use Rattle.parser.specs.Read.{Reading, outcome_by, outcome, answer, left, reading}
-use Rattle.steps.specs.Into.{Out, done, stop, shows, advance_in, advanced, after, rest_at, loop_in, closes_at}
+use Rattle.parser.specs.Read.{Answer, Reading, outcome_by, outcome, answer, left, reading}
+use Rattle.steps.specs.Into.{Out, done, stop, shows, advance_in, advanced, after, rest_at}
 use Rattle.parse_definitions.specs.Into.{definition_in}
-use Rattle.reader.specs.Into.{in_rest, rest_in, between_in, over_in, document_in, beginning, refusing, refusing_at, judged, unscanned, settled, parsing}
+use Rattle.reader.specs.declared.Tables.{Tables}
+use Rattle.reader.specs.Gives.{Gives}
+use Rattle.reader.specs.Into.{in_rest, rest_in, document_in, beginning, refusing, refusing_at, judged, unscanned, settled, parsing}
 
-pub document_is : (text : List ℕ) (st : State) (t u : List ℕ) → document_in text st t u ≡
-    loop_in text (closes_at 255) (between_in text) over_in (rest_in text) st t u
-unfolding document_in
-document_is text st t u = refl
+-- a call's answer and tables, by what else they are
+pub gives : {m n : List ℕ → List ℕ → Reading} {s t : Tables} {r : Answer} → Gives m s t r → m s.nodes.now s.comments.now ≡ n s.nodes.now s.comments.now → Gives n s t r
+gives g e = record { goes = g.goes ∙ e; nodes = g.nodes; comments = g.comments }
+
+-- the same, of tables that are lent on
+pub gives_on : {m n : List ℕ → List ℕ → Reading} {s s' t : Tables} {r : Answer} → Gives m s' t r → m s'.nodes.now s'.comments.now ≡ n s.nodes.now s.comments.now
+    → s'.nodes.ghost_name ≡ s.nodes.ghost_name → s'.comments.ghost_name ≡ s.comments.ghost_name → Gives n s t r
+gives_on g e h k = record { goes = g.goes ∙ e; nodes = g.nodes ∙ h; comments = g.comments ∙ k }
 
 lent_tail : (at : ℕ) (t u : List ℕ) → put_mid at (length t - at) t u ≡ take at t ++ u
 lent_tail at t u =
@@ -65,19 +72,19 @@ unfolding judged refusing_at
 judged_same (done st t' u') len t u t₁ u₁ h g = refl
 judged_same (stop e l t' u') len t u t₁ u₁ h g = refusing_same _ _ _ t u t₁ u₁ h g
 
-module _ (text t u t₁ u₁ : List ℕ) (a : Result State Raised) (from : ℕ) (document : shows a t₁ u₁ ≡ document_in text (beginning text) t u)
-    (f : from ≡ unscanned (shows a t₁ u₁)) (y : length t₁ ≡ length t) (z : length u₁ ≡ length u) where
-  parsed : (v : Option ℕ) → unrecognized (cuts (drop from text)) from ≡ v → settled v (shows a t₁ u₁) (length text) t u ≡ parsing text t u
+module _ (text t u t₁ u₁ : List ℕ) (o : Out) (from : ℕ) (document : o ≡ document_in text (beginning text) t u)
+    (f : from ≡ unscanned o) (y : length t₁ ≡ length t) (z : length u₁ ≡ length u) where
+  parsed : (v : Option ℕ) → unrecognized (cuts (drop from text)) from ≡ v → settled v o (length text) t u ≡ parsing text t u
   unfolding parsing
   parsed v g =
-      ap (λ (w : Option ℕ). settled w (shows a t₁ u₁) (length text) t u) (sym g ∙ ap (λ (i : ℕ). unrecognized (cuts (drop i text)) i) f)
+      ap (λ (w : Option ℕ). settled w o (length text) t u) (sym g ∙ ap (λ (i : ℕ). unrecognized (cuts (drop i text)) i) f)
       ∙ ap (λ (o : Out). settled (unrecognized (cuts (drop (unscanned o) text)) (unscanned o)) o (length text) t u) document
 
   pub parse_unknown : (p : ℕ) (r : Reading) → unrecognized (cuts (drop from text)) from ≡ Some p → r ≡ refusing 22 p 0 t₁ u₁ → r ≡ parsing text t u
   unfolding settled
   parse_unknown p r g q = q ∙ refusing_same _ _ _ t u t₁ u₁ y z ∙ parsed (Some p) g
 
-  pub parse_judged : (r : Reading) → unrecognized (cuts (drop from text)) from ≡ None → r ≡ judged (shows a t₁ u₁) (length text) t₁ u₁ → r ≡ parsing text t u
+  pub parse_judged : (r : Reading) → unrecognized (cuts (drop from text)) from ≡ None → r ≡ judged o (length text) t₁ u₁ → r ≡ parsing text t u
   unfolding settled
   parse_judged r g q = q ∙ judged_same _ _ t u t₁ u₁ y z ∙ parsed None g
 

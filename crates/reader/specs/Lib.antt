@@ -1,1 +1,3 @@
 pub mod Into
+pub mod Gives
+pub mod Refuses

@@ -10,6 +10,8 @@ ghost use Rattle.steps.specs.Into.{shows};
 ghost use Rattle.steps.specs.Reads.{Does, Reads};
 ghost use Rattle.parse_definitions.specs.Into.{definition_in};
 ghost use Rattle.reader.specs.Into.{rest_in, over_in, between_in, document_in, unread, beginning, refusing, ended, refusing_at, fits, judged, unscanned, parsing};
+ghost use Rattle.reader.specs.Gives.{Wipes, Gives};
+ghost use Rattle.reader.specs.Refuses.{Refuses};
 
 use lexer::error::{ErrorKind, Refusal};
 use lexer::location::Lexer;
@@ -18,18 +20,25 @@ use steps::packed::Range;
 use steps::state::{Parsed, Parser, Raised, State};
 use steps::{packed, table};
 
+// A text that passed 20.
+#[derive(Clone, Copy)]
+struct Short<'a> {
+    text: &'a [u8],
+    ghost short: { length text.now ≤ limit },
+}
+
 // The definition ahead; the table is lent from its own record on.
+// In parts: of a parser, part of one table and the other can't yet be lent together.
 fn parse_from(
-    text: &[u8],
+    short: Short,
     state: State,
     rest: &mut [u32],
     comments: &mut [u32],
 ) -> Result<State, Raised>
-    requires { length text.now ≤ limit }
-    ensures { shows result rest.new comments.new ≡ definition_in text.now state.next state rest.old comments.old }
+    ensures { shows result rest.new comments.new ≡ definition_in short.entry.text.now state.next state rest.old comments.old }
 {
     let mut p = Parser {
-        text,
+        text: short.text,
         nodes: rest,
         base: state.next,
         comments,
@@ -44,7 +53,8 @@ fn parse_in_rest(p: &mut Parser) -> Parsed
     ensures { Reads (λ x. rest_in x.text) p.old p.new result }
 {
     let at = table::rest_at(p.state.next as usize * ast::NODE_WIDTH, p.nodes.len());
-    p.state = parse_from(p.text, p.state, &mut p.nodes[at..], p.comments)?;
+    let short = Short { text: p.text };
+    p.state = parse_from(short, p.state, &mut p.nodes[at..], p.comments)?;
     Ok(())
 }
 
@@ -62,9 +72,9 @@ fn over(p: &mut Parser) -> Parsed
 fn between(p: &mut Parser)
     ensures { Does (λ x. between_in x.text) p.old p.new }
 {
-    p.skip(true);
-    p.skip_comments(false);
-    p.skip(true);
+    p.skip_separators();
+    p.skip_comments();
+    p.skip_separators();
 }
 
 // parse: all definitions.
@@ -92,12 +102,11 @@ fn unread() -> State
 }
 
 // All of a text.
-fn parse_text(text: &[u8], nodes: &mut [u32], comments: &mut [u32]) -> Result<State, Raised>
-    requires { length text.now ≤ limit }
-    ensures { shows result nodes.new comments.new ≡ document_in text.now (beginning text.now) nodes.old comments.old }
+fn parse_text(short: Short, nodes: &mut [u32], comments: &mut [u32]) -> Result<State, Raised>
+    ensures { shows result nodes.new comments.new ≡ document_in short.entry.text.now (beginning short.entry.text.now) nodes.old comments.old }
 {
     let mut p = Parser {
-        text,
+        text: short.text,
         nodes,
         base: 0,
         comments,
@@ -106,14 +115,6 @@ fn parse_text(text: &[u8], nodes: &mut [u32], comments: &mut [u32]) -> Result<St
     p.advance();
     parse_document(&mut p)?;
     Ok(p.state)
-}
-
-fn refuse(refusal: Refusal, nodes: &mut [u32], comments: &mut [u32]) -> Answer
-    ensures { told result nodes.new comments.new ≡ refusing (number_of refusal.kind) refusal.place refusal.length nodes.old comments.old }
-{
-    ast::clear(nodes, 0);
-    ast::clear(comments, 0);
-    Err(refusal)
 }
 
 // The end rule: with no token left, 3 if the last token ends at the text's length, else 1.
@@ -130,46 +131,6 @@ fn end_rule(kind: ErrorKind, end: u32, len: usize) -> ErrorKind
     }
 }
 
-// A refusal of the grammar.
-fn refuse_at(raised: Raised, len: usize, nodes: &mut [u32], comments: &mut [u32]) -> Answer
-    ensures { told result nodes.new comments.new ≡ refusing_at (number_of raised.kind) (unpacked_loc raised.loc) len nodes.old comments.old }
-{
-    let loc = raised.loc;
-    let place = packed::index_of(loc.start);
-    let end = packed::index_of(loc.end);
-    let kind = end_rule(raised.kind, end, len);
-    let length = end.saturating_sub(place);
-    refuse(
-        Refusal {
-            kind,
-            place,
-            length,
-        },
-        nodes,
-        comments,
-    )
-}
-
-// What was read, if the tables hold it: else 24, then 25.
-fn fit(state: State, nodes: &mut [u32], comments: &mut [u32]) -> Answer
-    ensures { told result nodes.new comments.new ≡ fits state nodes.old comments.old }
-{
-    let next = state.next;
-    let owned = state.owned;
-    if nodes.len() / ast::NODE_WIDTH < next as usize {
-        return refuse(Refusal::at(ErrorKind::NodesFull, 0), nodes, comments);
-    }
-    if comments.len() / ast::COMMENT_WIDTH < owned as usize {
-        return refuse(Refusal::at(ErrorKind::CommentsFull, 0), nodes, comments);
-    }
-    ast::clear(nodes, next as usize * ast::NODE_WIDTH);
-    ast::clear(comments, owned as usize * ast::COMMENT_WIDTH);
-    Ok(Counts {
-        nodes: next,
-        comments: owned,
-    })
-}
-
 // From where on tokens are still to be looked for: behind what was read; from the start where the grammar refuses.
 fn unscanned(parsed: Result<State, Raised>) -> usize
     ensures { (result ≤ 4294967295) × ((t u : List ℕ) → result ≡ unscanned (shows parsed t u)) }
@@ -183,43 +144,128 @@ fn unscanned(parsed: Result<State, Raised>) -> usize
     }
 }
 
-// What the grammar finds.
-fn judge(
-    parsed: Result<State, Raised>,
-    len: usize,
-    nodes: &mut [u32],
-    comments: &mut [u32],
-) -> Answer
-    ensures { told result nodes.new comments.new ≡ judged (shows parsed nodes.old comments.old) len nodes.old comments.old }
-{
-    match parsed {
-        Err(raised) => refuse_at(raised, len, nodes, comments),
-        Ok(state) => fit(state, nodes, comments),
+// Both tables that a reading is lent.
+#[derive(Drop)]
+struct Tables<'a> {
+    nodes: &'a mut [u32],
+    comments: &'a mut [u32],
+}
+
+impl Tables<'_> {
+    // Nothing is left in them.
+    fn wipe(&mut self)
+        ensures { Wipes self.old self.new }
+    {
+        ast::clear(self.nodes, 0);
+        ast::clear(self.comments, 0);
+    }
+
+    fn refuse(&mut self, refusal: Refusal) -> Answer
+        ensures { Gives (refusing (number_of refusal.kind) refusal.place refusal.length) self.old self.new result }
+    {
+        self.wipe();
+        Err(refusal)
+    }
+
+    // A refusal of the grammar.
+    fn refuse_at(&mut self, raised: Raised, len: usize) -> Answer
+        ensures { Gives (refusing_at (number_of raised.kind) (unpacked_loc raised.loc) len) self.old self.new result }
+    {
+        let loc = raised.loc;
+        let place = packed::index_of(loc.start);
+        let end = packed::index_of(loc.end);
+        let kind = end_rule(raised.kind, end, len);
+        let length = end.saturating_sub(place);
+        self.refuse(Refusal {
+            kind,
+            place,
+            length,
+        })
+    }
+
+    // What was read, if the tables hold it: else 24, then 25.
+    fn fit(&mut self, state: State) -> Answer
+        ensures { Gives (fits state) self.old self.new result }
+    {
+        let next = state.next;
+        let owned = state.owned;
+        if self.nodes.len() / ast::NODE_WIDTH < next as usize {
+            return self.refuse(Refusal::at(ErrorKind::NodesFull, 0));
+        }
+        if self.comments.len() / ast::COMMENT_WIDTH < owned as usize {
+            return self.refuse(Refusal::at(ErrorKind::CommentsFull, 0));
+        }
+        ast::clear(self.nodes, next as usize * ast::NODE_WIDTH);
+        ast::clear(self.comments, owned as usize * ast::COMMENT_WIDTH);
+        Ok(Counts {
+            nodes: next,
+            comments: owned,
+        })
+    }
+
+    // What the grammar finds.
+    fn judge(&mut self, parsed: Result<State, Raised>, len: usize) -> Answer
+        ensures { Gives (λ t u. judged (shows parsed t u) len t u) self.old self.new result }
+    {
+        match parsed {
+            Err(raised) => self.refuse_at(raised, len),
+            Ok(state) => self.fit(state),
+        }
+    }
+
+    // 22 and the grammar, in one pass where the text is accepted: a text that passed 20 and 21.
+    fn parse(&mut self, short: Short) -> Answer
+        ensures { Gives (parsing short.entry.text.now) self.old self.new result }
+    {
+        let text = short.text;
+        let parsed = parse_text(short, self.nodes, self.comments);
+        let from = unscanned(parsed);
+        if let Some(at) = lexer::unrecognized(text, from) {
+            return self.refuse(Refusal::at(ErrorKind::NoToken, at as u32));
+        }
+        self.judge(parsed, text.len())
+    }
+
+    fn read(&mut self, text: &[u8]) -> Answer
+        ensures { Gives (reading text.now) self.old self.new result }
+    {
+        if lexer::LIMIT < text.len() {
+            return self.refuse(Refusal::at(ErrorKind::TextTooLong, 0));
+        }
+        if let Some(at) = utf8::ill_formed(text) {
+            return self.refuse(Refusal::at(ErrorKind::NotUtf8, at as u32));
+        }
+        self.parse(Short { text })
     }
 }
 
-// 22 and the grammar, in one pass where the text is accepted: a text that passed 20 and 21.
-fn parse(text: &[u8], nodes: &mut [u32], comments: &mut [u32]) -> Answer
-    requires { length text.now ≤ limit }
-    ensures { told result nodes.new comments.new ≡ parsing text.now nodes.old comments.old }
-{
-    let parsed = parse_text(text, nodes, comments);
-    let from = unscanned(parsed);
-    if let Some(at) = lexer::unrecognized(text, from) {
-        return refuse(Refusal::at(ErrorKind::NoToken, at as u32), nodes, comments);
-    }
-    judge(parsed, text.len(), nodes, comments)
-}
-
-// Reads a text into a node table and a comment table.
+// Reads a text into a node table and a comment table; the parameters of each entry are document 01's, and C's.
 pub fn read(text: &[u8], nodes: &mut [u32], comments: &mut [u32]) -> Answer
     ensures { told result nodes.new comments.new ≡ reading text.now nodes.old comments.old }
 {
-    if lexer::LIMIT < text.len() {
-        return refuse(Refusal::at(ErrorKind::TextTooLong, 0), nodes, comments);
+    let mut tables = Tables { nodes, comments };
+    tables.read(text)
+}
+
+// Both tables that a call is lent, and the list that it fills.
+#[derive(Drop)]
+pub struct Lent<'a, T> {
+    pub nodes: &'a mut [u32],
+    pub comments: &'a mut [u32],
+    pub out: &'a mut [T],
+}
+
+impl<T: Copy + Default> Lent<'_, T> {
+    // A refusal leaves nothing in either table or the list.
+    pub fn refuse<A>(&mut self, refusal: Refusal) -> Result<A, Refusal>
+        ensures { Refuses T.is_default refusal self.old self.new result }
+    {
+        ast::clear(self.out, 0);
+        let mut tables = Tables {
+            nodes: self.nodes,
+            comments: self.comments,
+        };
+        tables.wipe();
+        Err(refusal)
     }
-    if let Some(at) = utf8::ill_formed(text) {
-        return refuse(Refusal::at(ErrorKind::NotUtf8, at as u32), nodes, comments);
-    }
-    parse(text, nodes, comments)
 }

@@ -4,6 +4,7 @@
 --     filled_long                      a table that has room for rows is as long when filled with them
 --     cleared_twice                    a table of zeros stays one
 --     starts                           where a record starts fits
+--     own_in                           a number that each record has
 --     held_some, held_none, held_or    a number of a record that the code reads, and none behind the last record
 --     decoded, kind_held, kind_past    a record's kind by its number
 --     none_left, past_end, one_more    what an iterator over siblings has left
@@ -13,14 +14,14 @@ use mathlib.Core.List.{List, [], ◌∷◌, ◌++◌}
 use Prim.Native.Nat.{ℕ, zero, suc, ◌+◌, ◌*◌, ◌-◌, ◌/◌, ◌^◌, ◌≤◌, ◌<◌}
 use native.Mathlib.Nat.{le-div_iff_mul-le, div-lt_iff_lt-mul, mul-le-mul_left}
 use native.Mathlib.Omega.{arith}
-use borrow.Author.Tests.{lt-ltb, le-ltb, ltb-false}
+use borrow.Author.Tests.{lt-ltb, le-ltb, lt-leb, ltb-false}
 use lib.Dec.{ltb}
 use lib.ListN.{length, drop, get_or, replicate, length-append, length-drop, length-replicate, get_or-append}
 use lib.Seq.{drop-drop, get_or-drop, drop_at}
 use Rattle.ast.specs.Lists.{All}
 use Rattle.ast.specs.Records.{node_width, room, concat, filled, cleared}
 use Rattle.ast.proofs.Counts.{Wide, concat_width, filled_length}
-use Rattle.records.specs.Table.{number_at, held_at, kind_at, past_at, siblings_from}
+use Rattle.records.specs.Table.{number_at, own_at, held_at, kind_at, past_at, siblings_from}
 use Rattle.std.specs.Prelude.{Some, None, Result, Ok, Err, slice_range, unwrap_or}
 use Rattle.std.specs.Result.{result_ok}
 use Rattle.std.proofs.lemmas.List.{get_or-take}
@@ -61,6 +62,10 @@ module _ (w : ℕ) (t : List ℕ) (r k : ℕ) (h : k < w) where
   unfolding held_at number_at
   held_some l = rw (held t r (omega arith) l, get_or-take (r * w + w - r * w) (drop (r * w) t) k 0 (omega arith), get_or-drop (r * w) t k 0)
 
+  pub in_range : get_or (slice_range t (r * w) (r * w + w)) k 0 ≡ number_at w t r k
+  unfolding number_at
+  in_range = get_or-take (r * w + w - r * w) (drop (r * w) t) k 0 (omega arith) ∙ get_or-drop (r * w) t k 0
+
   pub held_none : length t < r * w + w → None ≡ held_at w t r k
   unfolding held_at
   held_none l = rw (not_held t r (omega arith) l)
@@ -72,6 +77,10 @@ module _ (w : ℕ) (t : List ℕ) (r k : ℕ) (h : k < w) where
       go : (b : Bool) → unwrap_or (cond b (Some (number_at w t r k)) None) d ≡ cond b (number_at w t r k) d
       go true = refl
       go false = refl
+
+  pub own_in : own_at w t r k ≡ number_at w t r k
+  unfolding own_at
+  own_in = rw (lt-leb w k h)
 
 -- the kind of a record
 pub decoded : (n : ℕ) (r : Result Kind UnknownKind) → Decodes n r → result_ok r ≡ kind_of n
@@ -132,6 +141,10 @@ module _ (m : ℕ) (t : List ℕ) (end n : ℕ) where
 
 -- what each function needs
 pub ruleset holds = (starts, held_some, held_none)
+
+pub ruleset own = (own_in)
+
+pub ruleset parts = (starts, in_range, own_in)
 
 pub ruleset kinds = (decoded, kind_held, kind_past)
 

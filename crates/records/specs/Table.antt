@@ -22,6 +22,10 @@ use Rattle.ast.specs.Records.{node_width, no_parent, size, sizes, rows_of, room,
 unfoldable pub number_at : ℕ → List ℕ → ℕ → ℕ → ℕ
 number_at w t r k = get_or t (r * w + k) 0
 
+-- the same of a number that each record has; 0 of one that none has
+unfoldable pub own_at : ℕ → List ℕ → ℕ → ℕ → ℕ
+own_at w t r k = cond (leb w k) 0 (number_at w t r k)
+
 -- the same of a record that is below so many
 unfoldable pub held_at : ℕ → List ℕ → ℕ → ℕ → Option ℕ
 held_at w t r k = cond (ltb r (room w t)) (Some (number_at w t r k)) None

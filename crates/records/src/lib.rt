@@ -1,40 +1,14 @@
 // Tables by record number.
 #![tactic(auto)]
 
-ghost use Rattle.std.specs.Prelude.{◌≡◌, ◌≤◌, ◌<◌, get_or};
+ghost use Rattle.std.specs.Prelude.{◌≡◌, ◌≤◌, ◌<◌};
 ghost use Rattle.ast.specs.Column as C;
 ghost use Rattle.ast.specs.KindNumber.{kind_of};
 ghost use Rattle.ast.specs.Records.{comment_width, node_width, room};
-ghost use Rattle.records.specs.Table.{number_at, held_at, kind_at, parent_at, flags_at, start_at, end_at, past_at, siblings, children_of, part};
+ghost use Rattle.records.specs.Table.{number_at, own_at, held_at, kind_at, parent_at, flags_at, start_at, end_at, past_at, siblings, children_of, part};
 
 use ast::kind::Kind;
 use ast::{COMMENT_WIDTH, NO_PARENT, NODE_WIDTH, bump, column};
-
-// A number of a table; 0 where the table does not hold it.
-fn or_zero(table: &[u32], at: usize) -> u32
-    ensures { result ≡ get_or table.now at 0 }
-{
-    table.get(at).copied().unwrap_or(0)
-}
-
-// A number of record n, in a table of records of so many numbers that holds it whole.
-#[tactic(auto, using(crate::proofs::RecordLaws::holds))]
-fn held(table: &[u32], width: usize, n: u32, column: usize) -> Option<u32>
-    requires { (column < width) × (width ≤ node_width) }
-    ensures { result ≡ held_at width table.now n column }
-{
-    let at = n as usize * width;
-    let record = table.get(at..at + width)?;
-    Some(record[column])
-}
-
-// The owner of a comment record; none behind the last one.
-#[tactic(auto, using(crate::proofs::RecordLaws::held_or), unfolding(ast::specs::Records::comment_width, ast::specs::Records::node_width, ast::specs::Records::no_parent, crate::specs::Table::parent_at))]
-pub fn owner(comments: &[u32], n: u32) -> u32
-    ensures { result ≡ parent_at comment_width comments.now (room comment_width comments.now) n }
-{
-    held(comments, COMMENT_WIDTH, n, column::PARENT).unwrap_or(NO_PARENT)
-}
 
 // A part of the text, from an index to an index.
 #[derive(Clone, Copy)]
@@ -54,16 +28,93 @@ impl Part {
     }
 }
 
-// The part that record n tells of, in a table of records of so many numbers; 0 for a number that the table does not hold.
-#[tactic(auto, using(crate::proofs::RecordLaws::starts), unfolding(ast::specs::Records::node_width, crate::specs::Table::number_at))]
-pub fn part_at(table: &[u32], width: usize, n: u32) -> Part
-    requires { (C.End < width) × (width ≤ node_width) }
-    ensures { (result.start ≡ number_at width table.now n C.Start) × (result.end ≡ number_at width table.now n C.End) }
-{
-    let at = n as usize * width;
-    Part {
-        start: or_zero(table, at + column::START),
-        end: or_zero(table, at + column::END),
+// Records of WIDTH numbers each, one after another.
+#[derive(Clone, Copy)]
+pub struct Table<'a, const WIDTH: usize> {
+    pub numbers: &'a [u32],
+    // a record tells of a part of the text, and is no wider than a node's
+    pub ghost tells: { C.End < WIDTH },
+    pub ghost narrow: { WIDTH ≤ node_width },
+}
+
+impl<const WIDTH: usize> Table<'_, WIDTH> {
+    // A number of a record; none where the table does not hold the record whole.
+    #[tactic(auto, using(crate::proofs::RecordLaws::holds))]
+    fn held(self, n: u32, column: usize) -> Option<u32>
+        requires { column < WIDTH }
+        ensures { result ≡ held_at WIDTH self.entry.numbers.now n column }
+    {
+        let at = n as usize * WIDTH;
+        let record = self.numbers.get(at..at + WIDTH)?;
+        Some(record[column])
+    }
+
+    // A number of a record; 0 where the table does not hold it, or no record has it.
+    #[tactic(auto, using(crate::proofs::RecordLaws::starts), unfolding(crate::specs::Table::own_at, crate::specs::Table::number_at))]
+    pub fn number(self, n: u32, column: usize) -> u32
+        ensures { result ≡ own_at WIDTH self.entry.numbers.now n column }
+    {
+        if WIDTH <= column {
+            return 0;
+        }
+        let at = n as usize * WIDTH + column;
+        self.numbers.get(at).copied().unwrap_or(0)
+    }
+
+    // The parent of a node, the owner of a comment; none behind the last record.
+    #[tactic(auto, using(crate::proofs::RecordLaws::held_or), unfolding(ast::specs::Records::no_parent, crate::specs::Table::parent_at))]
+    pub fn parent(self, n: u32) -> u32
+        ensures { result ≡ parent_at WIDTH self.entry.numbers.now (room WIDTH self.entry.numbers.now) n }
+    {
+        self.held(n, column::PARENT).unwrap_or(NO_PARENT)
+    }
+
+    // The part of the text that a record tells of; 0 for a number that the table does not hold.
+    #[tactic(auto, using(crate::proofs::RecordLaws::parts))]
+    pub fn part(self, n: u32) -> Part
+        ensures { (result.start ≡ number_at WIDTH self.entry.numbers.now n C.Start) × (result.end ≡ number_at WIDTH self.entry.numbers.now n C.End) }
+    {
+        let at = n as usize * WIDTH;
+        // a record that is there is looked up once
+        match self.numbers.get(at..at + WIDTH) {
+            Some(record) => Part {
+                start: record[column::START],
+                end: record[column::END],
+            },
+            None => Part {
+                start: self.number(n, column::START),
+                end: self.number(n, column::END),
+            },
+        }
+    }
+}
+
+// A comment table, by record number. This and the next fix the width, and promise by the definitions' names.
+#[derive(Clone, Copy)]
+pub struct Comments<'a>(pub &'a [u32]);
+
+impl<'a> Comments<'a> {
+    #[tactic(auto, unfolding(ast::specs::Records::node_width))]
+    fn records(self) -> Table<'a, COMMENT_WIDTH>
+        ensures { result.numbers.now ≡ self.entry.0.now }
+    {
+        Table { numbers: self.0 }
+    }
+
+    // The owner of a comment; none behind the last one.
+    #[tactic(auto, unfolding(ast::specs::Records::comment_width))]
+    pub fn owner(self, n: u32) -> u32
+        ensures { result ≡ parent_at comment_width self.entry.0.now (room comment_width self.entry.0.now) n }
+    {
+        self.records().parent(n)
+    }
+
+    // The part of the text that a comment stands at.
+    #[tactic(auto, unfolding(ast::specs::Records::comment_width))]
+    pub fn part(self, n: u32) -> Part
+        ensures { (result.start ≡ number_at comment_width self.entry.0.now n C.Start) × (result.end ≡ number_at comment_width self.entry.0.now n C.End) }
+    {
+        self.records().part(n)
     }
 }
 
@@ -74,12 +125,27 @@ pub struct Nodes<'a>(pub &'a [u32]);
 impl<'a> Nodes<'a> {
     ghost use Rattle.records.specs.Siblings.{left};
 
+    #[tactic(auto, unfolding(ast::specs::Records::node_width))]
+    fn table(self) -> Table<'a, NODE_WIDTH>
+        ensures { result.numbers.now ≡ self.entry.0.now }
+    {
+        Table { numbers: self.0 }
+    }
+
+    // A number of a record; 0 where the table does not hold it, or no record has it.
+    #[tactic(auto, unfolding(ast::specs::Records::node_width))]
+    pub fn number(self, n: u32, column: usize) -> u32
+        ensures { result ≡ own_at node_width self.entry.0.now n column }
+    {
+        self.table().number(n, column)
+    }
+
     // The kind of a record; none behind the last one.
     #[tactic(auto, using(crate::proofs::RecordLaws::kinds), unfolding(ast::specs::Records::node_width))]
     pub fn kind(self, n: u32) -> Option<Kind>
         ensures { result ≡ kind_of (kind_at self.entry.0.now (room node_width self.entry.0.now) n) }
     {
-        let number = held(self.0, NODE_WIDTH, n, 0)?;
+        let number = self.table().held(n, 0)?;
         Kind::try_from(number).ok()
     }
 
@@ -88,31 +154,31 @@ impl<'a> Nodes<'a> {
     pub fn kind_number(self, n: u32) -> u32
         ensures { result ≡ kind_at self.entry.0.now (room node_width self.entry.0.now) n }
     {
-        held(self.0, NODE_WIDTH, n, 0).unwrap_or(0)
+        self.table().held(n, 0).unwrap_or(0)
     }
 
     // The parent of a record; none behind the last one.
-    #[tactic(auto, using(crate::proofs::RecordLaws::held_or), unfolding(ast::specs::Records::node_width, ast::specs::Records::no_parent, crate::specs::Table::parent_at))]
+    #[tactic(auto, unfolding(ast::specs::Records::node_width))]
     pub fn parent(self, n: u32) -> u32
         ensures { result ≡ parent_at node_width self.entry.0.now (room node_width self.entry.0.now) n }
     {
-        held(self.0, NODE_WIDTH, n, column::PARENT).unwrap_or(NO_PARENT)
+        self.table().parent(n)
     }
 
     // The flags of a record.
-    #[tactic(auto, unfolding(ast::specs::Records::node_width, crate::specs::Table::number_at))]
+    #[tactic(auto, using(crate::proofs::RecordLaws::own), unfolding(ast::specs::Records::node_width))]
     pub fn flags(self, n: u32) -> u32
         ensures { result ≡ flags_at self.entry.0.now n }
     {
-        or_zero(self.0, n as usize * NODE_WIDTH + column::FLAGS)
+        self.number(n, column::FLAGS)
     }
 
     // The record number just past a node's last descendant: the next sibling's, if there is one.
-    #[tactic(auto, unfolding(ast::specs::Records::node_width, crate::specs::Table::number_at))]
+    #[tactic(auto, using(crate::proofs::RecordLaws::own), unfolding(ast::specs::Records::node_width))]
     pub fn past(self, n: u32) -> u32
         ensures { result ≡ past_at self.entry.0.now n }
     {
-        or_zero(self.0, n as usize * NODE_WIDTH + column::PAST)
+        self.number(n, column::PAST)
     }
 
     // The part of the text that a record tells of.
@@ -120,7 +186,7 @@ impl<'a> Nodes<'a> {
     pub fn part(self, n: u32) -> Part
         ensures { (result.start ≡ start_at self.entry.0.now n) × (result.end ≡ end_at self.entry.0.now n) }
     {
-        part_at(self.0, NODE_WIDTH, n)
+        self.table().part(n)
     }
 
     // The records from one on, each just past the last one's descendants, as long as they are below the end.

@@ -1,3 +1,4 @@
 pub mod Filled
 pub mod Pairs
 pub mod Zeros
+pub mod Heads

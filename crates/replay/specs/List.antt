@@ -1,6 +1,6 @@
 -- What the replay programs look at: the numbers of a list, and what has to be 0.
 -- And what a call reads of the bytes that the list has left, where those are known; of standard input they are not.
-use Rattle.std.specs.Prelude.{◌≡◌, List, [], ℕ, ◌+◌, ◌*◌, ◌<◌, ◌≤◌, length, get_or, take, drop, ⊤, Option, None, Some}
+use Rattle.std.specs.Prelude.{◌≡◌, List, [], ◌∷◌, ℕ, zero, suc, ◌+◌, ◌*◌, ◌<◌, ◌≤◌, length, get_or, take, drop, ⊤, Option, None, Some, Result, Ok, Err}
 
 -- a little-endian number of 4 bytes
 unfoldable pub number_at : List ℕ → ℕ → ℕ
@@ -30,3 +30,16 @@ abbrev pub PassesPart : Option (List ℕ) → Option (List ℕ) → Type 0
 PassesPart None new = ⊤
 PassesPart (Some xs) None = ⊥
 PassesPart (Some xs) (Some ys) = 4 ≤ length xs → ys ≡ drop (number_at xs 0) (drop 4 xs)
+
+-- so many parts are passed, one after another
+unfoldable pub PassesParts : ℕ → Option (List ℕ) → Option (List ℕ) → Type 0
+PassesParts zero old new = old ≡ new
+PassesParts (suc n) old new = (left : Option (List ℕ)) × PassesParts n old left × PassesPart left new
+
+-- what the list has for a text: 0, two numbers more, and the counts; or the refusal's three numbers
+abbrev pub ReadsAnswer : Result (List ℕ) (List ℕ) → Option (List ℕ) → Option (List ℕ) → Type 0
+ReadsAnswer answer None new = ⊤
+ReadsAnswer answer (Some xs) None = ⊥
+ReadsAnswer (Ok counts) (Some xs) (Some ys) = 20 ≤ length xs → (number_at xs 0 ≡ 0) × (counts ≡ number_at xs 12 ∷ number_at xs 16 ∷ []) × (ys ≡ drop 20 xs)
+ReadsAnswer (Err refusal) (Some xs) (Some ys) =
+    12 ≤ length xs → (number_at xs 0 ≡ 0 → ⊥) × (refusal ≡ number_at xs 0 ∷ number_at xs 4 ∷ number_at xs 8 ∷ []) × (ys ≡ drop 12 xs)

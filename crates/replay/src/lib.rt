@@ -11,7 +11,7 @@ ghost use Rattle.std.specs.Prelude.{◌≡◌, Bool, true, cond, not, ◌==◌, 
 ghost use Rattle.std.specs.Io.{ReadsAtMost};
 ghost use Rattle.std.specs.List.{FoldsTo};
 ghost use Rattle.input.specs.Known.{Passes};
-ghost use Rattle.replay.specs.List.{number_at, ZeroFrom, ReadsNumber, ReadsPart, PassesPart};
+ghost use Rattle.replay.specs.List.{number_at, ZeroFrom, ReadsNumber, ReadsAnswer, ReadsPart, PassesPart, PassesParts};
 ghost use Rattle.replay.specs.Findings.{WithText};
 ghost use Rattle.ast.specs.Largest.{bump};
 ghost use Rattle.lexer.specs.Location.{has_pair};
@@ -28,7 +28,10 @@ pub const NODES: usize = 10005;
 
 pub const COMMENTS: usize = 1804;
 
-// What a program finds in the texts of the list, and writes behind their count.
+// The prints of a text, at 0, 2 and 8.
+const PRINTS: u32 = 3;
+
+// What a program finds in the texts of the list, and writes behind their count. What of it is a difference is each program's own.
 pub trait Findings: Copy + Default + fmt::Display {
     // Whether a text more differs, by what is found with it and what was found before.
     ghost differs: { Self → Self → Bool };
@@ -90,7 +93,7 @@ impl Tables {
 }
 
 // A count, and one more of it if so.
-fn one_more_if(so: bool, n: u32) -> u32
+pub fn one_more_if(so: bool, n: u32) -> u32
     ensures { result ≡ cond so (bump n) n }
 {
     if so { ast::bump(n) } else { n }
@@ -159,7 +162,7 @@ pub fn read_number<R: Read>(input: &mut R) -> io::Result<u32>
     Ok(number(&bytes, 0))
 }
 
-// Reads the next part of the list, its length and its bytes, to the start of a space; answers the length, 0 if the space is too short.
+// Reads the next part of the list, its length and its bytes, to the start of a space; answers the length, 0 if the space is too short: the programs then differ, and go on.
 pub fn read_part<R: Read>(input: &mut R, space: &mut [u8]) -> io::Result<usize>
     ensures bound { ReadsAtMost result space.new }
     ensures part { IfOk result (λ n. ReadsPart (length space.new) (take n space.new) (R.remaining input.old) (R.remaining input.new)) }
@@ -169,6 +172,24 @@ pub fn read_part<R: Read>(input: &mut R, space: &mut [u8]) -> io::Result<usize>
         return Ok(0);
     }
     input::read_full(input, &mut space[..length])
+}
+
+// What the list has for a text: the counts of nodes and of comments, or the refusal's number, place and length.
+pub type Listed = Result<[u32; 2], [u32; 3]>;
+
+// The answer of the next text.
+pub fn read_answer<R: Read>(input: &mut R) -> io::Result<Listed>
+    ensures { IfOk result (λ answer. ReadsAnswer answer (R.remaining input.old) (R.remaining input.new)) }
+{
+    let refusal = [
+        read_number(input)?,
+        read_number(input)?,
+        read_number(input)?,
+    ];
+    if refusal[0] != 0 {
+        return Ok(Err(refusal));
+    }
+    Ok(Ok([read_number(input)?, read_number(input)?]))
 }
 
 // Passes over so many bytes of the list.
@@ -190,6 +211,16 @@ pub fn pass_part<R: Read>(input: &mut R) -> io::Result<()>
 {
     let length = read_number(input)?;
     pass_bytes(input, length as usize)
+}
+
+// Passes over the three prints of a text.
+pub fn pass_prints<R: Read>(input: &mut R) -> io::Result<()>
+    ensures { OnOk result (PassesParts 3 (R.remaining input.old) (R.remaining input.new)) }
+{
+    for _ in 0..PRINTS {
+        pass_part(input)?;
+    }
+    Ok(())
 }
 
 // Passes over the records of so many nodes and of so many comments, numbers of 4 bytes.

@@ -145,13 +145,6 @@ fn lend<T>(there: &mut [T], count: u32) -> &mut [T] {
     &mut there[..end]
 }
 
-// Lays a part into a space, and the same byte in all that is left.
-fn lay(space: &mut [u8], part: &[u8], rest: u8) {
-    let end = part.len().min(space.len());
-    space[..end].copy_from_slice(&part[..end]);
-    space[end..].fill(rest);
-}
-
 // The file's length after some calls, what the printings among them came to, and whether `file::run` leaves the same.
 #[derive(Clone, Copy)]
 struct Steps {
@@ -195,7 +188,7 @@ impl Steps {
             return Steps { accepted, ..self };
         }
         let end = bytes.min(out.len());
-        lay(space, &out[..end], 0);
+        ast::lay(space, &out[..end], 0);
         Steps {
             length: bytes,
             accepted,
@@ -264,17 +257,13 @@ impl Tally {
         self.calls = self.calls.saturating_add(calls);
         self.accepted = self.accepted.saturating_add(steps.accepted);
         self.refused = self.refused.saturating_add(steps.refused);
-        if !steps.same {
-            self.differing = ast::bump(self.differing);
-        }
+        self.differing = replay::one_more_if(!steps.same, self.differing);
         self
     }
 
     // With a file that stays, or does not.
     fn stayed(mut self, same: bool) -> Tally {
-        if !same {
-            self.altered = ast::bump(self.altered);
-        }
+        self.altered = replay::one_more_if(!same, self.altered);
         self
     }
 }
@@ -343,8 +332,8 @@ fn compare_list(
     requests: &[[u32; 4]],
     tally: Tally,
 ) -> Tally {
-    lay(space, text.bytes, 7);
-    lay(spare, text.bytes, 7);
+    ast::lay(space, text.bytes, 7);
+    ast::lay(spare, text.bytes, 7);
     let steps = compare_in(space, spare, text, requests);
     let now = tally.called(steps, short(requests.len()));
     if 0 < steps.kept {
@@ -373,19 +362,12 @@ fn compare_lists(text: Text, mut tally: Tally) -> Tally {
 
 // Passes over what the list has for a text.
 fn pass_answer(input: &mut Stdin) -> io::Result<()> {
-    let number = replay::read_number(input)?;
-    replay::read_number(input)?;
-    replay::read_number(input)?;
-    if number != 0 {
+    let Ok(counts) = replay::read_answer(input)? else {
         return Ok(());
-    }
-    let nodes = replay::read_number(input)?;
-    let comments = replay::read_number(input)?;
+    };
+    let [nodes, comments] = counts;
     replay::pass_records(input, nodes, comments)?;
-    for _ in 0..3 {
-        replay::pass_part(input)?;
-    }
-    Ok(())
+    replay::pass_prints(input)
 }
 
 // Makes the calls of a text.

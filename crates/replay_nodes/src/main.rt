@@ -7,9 +7,9 @@
 
 ghost use Rattle.std.specs.Prelude.{◌<◌, ◌≤◌};
 
-use lexer::error::Refusal;
+use ast::{COMMENT_WIDTH, NODE_WIDTH};
 use parser::{Answer, Counts};
-use replay::{SPACE, Tables, Tally};
+use replay::{Listed, SPACE, Tables, Tally};
 use std::io;
 use std::io::Stdin;
 
@@ -18,19 +18,18 @@ const START_LINE: usize = ast::column::START + 1;
 
 const END_LINE: usize = ast::column::END + 1;
 
-// A table, and how many numbers each of its records has.
+// A table of records of so many numbers.
 #[derive(Clone, Copy)]
-struct Records<'a> {
+struct Records<'a, const WIDTH: usize> {
     table: &'a [u32],
-    width: usize,
-    ghost some: { 0 < width },
-    ghost few: { width ≤ 10 },
+    ghost some: { 0 < WIDTH },
+    ghost few: { WIDTH ≤ 10 },
 }
 
-impl Records<'_> {
+impl<const WIDTH: usize> Records<'_, WIDTH> {
     // Whether the number at an index is a line.
     fn is_line(self, i: usize) -> bool {
-        matches!(i % self.width, START_LINE | END_LINE)
+        matches!(i % WIDTH, START_LINE | END_LINE)
     }
 
     // Whether the number at an index is rico's; in a text with CR LF a line may be another.
@@ -43,7 +42,7 @@ impl Records<'_> {
 
     // Whether the next records of the list, so many, stand in the table, and 0 past them.
     fn are_listed(self, input: &mut Stdin, count: u32, paired: bool) -> io::Result<bool> {
-        let end = count as usize * self.width;
+        let end = count as usize * WIDTH;
         let mut same = true;
         for i in 0..end {
             let number = replay::read_number(input)?;
@@ -67,55 +66,43 @@ impl Reading {
         Reading { answer, tables }
     }
 
-    fn nodes(&self) -> Records<'_> {
+    fn nodes(&self) -> Records<'_, NODE_WIDTH> {
         Records {
             table: &self.tables.nodes,
-            width: ast::NODE_WIDTH,
         }
     }
 
-    fn comments(&self) -> Records<'_> {
+    fn comments(&self) -> Records<'_, COMMENT_WIDTH> {
         Records {
             table: &self.tables.comments,
-            width: ast::COMMENT_WIDTH,
         }
     }
 
-    // Whether it is the list's refusal, and the tables are all 0.
-    fn is_refusal(&self, input: &mut Stdin, number: u32) -> io::Result<bool> {
-        let place = replay::read_number(input)?;
-        let length = replay::read_number(input)?;
-        let same = matches!(
-            self.answer,
-            Err(Refusal { kind, place: p, length: l }) if (kind.number(), p, l) == (number, place, length)
-        );
-        Ok(same && self.tables.zero_from(0, 0))
+    // Whether the answer is the list's.
+    fn has(&self, listed: Listed) -> bool {
+        match self.answer {
+            Ok(Counts { nodes, comments }) => listed == Ok([nodes, comments]),
+            Err(refusal) => listed == Err(refusal.numbers()),
+        }
     }
 
-    // Whether it has the list's counts and records; in a text with CR LF the lines may be others.
-    fn is_accepted(&self, input: &mut Stdin, paired: bool) -> io::Result<bool> {
-        replay::read_number(input)?;
-        replay::read_number(input)?;
-        let nodes = replay::read_number(input)?;
-        let comments = replay::read_number(input)?;
-        let same = matches!(
-            self.answer,
-            Ok(Counts { nodes: n, comments: c }) if (n, c) == (nodes, comments)
-        );
+    // Whether the tables have the list's records, so many; in a text with CR LF the lines may be others.
+    fn has_records(&self, input: &mut Stdin, counts: [u32; 2], paired: bool) -> io::Result<bool> {
+        let [nodes, comments] = counts;
         let same_nodes = self.nodes().are_listed(input, nodes, paired)?;
         let same_comments = self.comments().are_listed(input, comments, paired)?;
-        for _ in 0..3 {
-            replay::pass_part(input)?;
-        }
-        Ok(same && same_nodes && same_comments)
+        replay::pass_prints(input)?;
+        Ok(same_nodes && same_comments)
     }
 
     // Whether the answer and the tables are as the list has them.
     fn is_listed(&self, input: &mut Stdin, paired: bool) -> io::Result<bool> {
-        match replay::read_number(input)? {
-            0 => self.is_accepted(input, paired),
-            number => self.is_refusal(input, number),
-        }
+        let listed = replay::read_answer(input)?;
+        let same = match listed {
+            Ok(counts) => self.has_records(input, counts, paired)?,
+            Err(_) => self.tables.zero_from(0, 0),
+        };
+        Ok(same && self.has(listed))
     }
 }
 
@@ -145,7 +132,7 @@ fn same_spaced(text: &[u8], tables: &Tables) -> bool {
     has_tables(spaced, tables)
 }
 
-// Reads a text, and tells whether all is as the list has it, and the lines as they must be.
+// Reads a text, and tells whether all is as the list has it, and the lines as they must be. Whether it has CR LF is looked up once, and handed down to each number.
 fn same_text(input: &mut Stdin, text: &[u8], paired: bool) -> io::Result<bool> {
     let reading = Reading::of(text);
     let listed = reading.is_listed(input, paired)?;

@@ -45,22 +45,18 @@ fn same_print(text: &[u8], indent: u32, print: &[u8]) -> bool {
 }
 
 // Whether printing at 2 into this output is so refused, and all that was lent is 0.
-fn is_refused(text: &[u8], out: &mut [u8], number: u32, place: u32, length: u32) -> bool {
+fn is_refused(text: &[u8], out: &mut [u8], numbers: [u32; 3]) -> bool {
     let mut tables = Tables::new();
-    let answer = printer::print(text, 2, &mut tables.nodes, &mut tables.comments, out);
-    let same = matches!(
-        answer,
-        Err(Refusal { kind, place: p, length: l }) if (kind.number(), p, l) == (number, place, length)
-    );
-    same && tables.zero_from(0, 0) && is_zero(out)
+    match printer::print(text, 2, &mut tables.nodes, &mut tables.comments, out) {
+        Ok(_) => false,
+        Err(refusal) => { refusal.numbers() == numbers && tables.zero_from(0, 0) && is_zero(out) }
+    }
 }
 
 // Whether the text is refused as the list has it.
-fn is_refused_alike(input: &mut Stdin, text: &[u8], number: u32) -> io::Result<bool> {
-    let place = replay::read_number(input)?;
-    let length = replay::read_number(input)?;
+fn is_refused_alike(text: &[u8], numbers: [u32; 3]) -> bool {
     let mut out: [u8; 99] = [7; 99];
-    Ok(is_refused(text, &mut out, number, place, length))
+    is_refused(text, &mut out, numbers)
 }
 
 // Whether 27 is given for an output one byte short of the print.
@@ -70,7 +66,7 @@ fn is_short(text: &[u8], print: &[u8]) -> bool {
     };
     let mut space: [u8; SPACE] = [7; SPACE];
     match space.get_mut(..shorter.len()) {
-        Some(out) => is_refused(text, out, ErrorKind::OutputFull.number(), 0, 0),
+        Some(out) => is_refused(text, out, Refusal::at(ErrorKind::OutputFull, 0).numbers()),
         None => false,
     }
 }
@@ -87,9 +83,7 @@ struct Tally {
 impl Tally {
     // With an answer that is the list's, or differs.
     fn compared(mut self, same: bool) -> Tally {
-        if !same {
-            self.differing = ast::bump(self.differing);
-        }
+        self.differing = replay::one_more_if(!same, self.differing);
         self
     }
 
@@ -102,9 +96,7 @@ impl Tally {
     // With a print that was printed again.
     fn printed_again(mut self, same: bool) -> Tally {
         self.again = ast::bump(self.again);
-        if !same {
-            self.altered = ast::bump(self.altered);
-        }
+        self.altered = replay::one_more_if(!same, self.altered);
         self
     }
 }
@@ -153,11 +145,6 @@ fn compare_print(text: &[u8], indent: u32, print: &[u8], tally: Tally) -> Tally 
 
 // Compares the three prints of an accepted text with those of the list.
 fn compare_prints(input: &mut Stdin, text: &[u8], mut tally: Tally) -> io::Result<Tally> {
-    replay::read_number(input)?;
-    replay::read_number(input)?;
-    let nodes = replay::read_number(input)?;
-    let comments = replay::read_number(input)?;
-    replay::pass_records(input, nodes, comments)?;
     let mut space: [u8; SPACE] = [0; SPACE];
     for indent in [0, 2, 8] {
         let length = replay::read_part(input, &mut space)?;
@@ -168,9 +155,13 @@ fn compare_prints(input: &mut Stdin, text: &[u8], mut tally: Tally) -> io::Resul
 
 // Compares what is answered for a text.
 fn compare(input: &mut Stdin, text: &[u8], _index: u32, tally: Tally) -> io::Result<Tally> {
-    match replay::read_number(input)? {
-        0 => compare_prints(input, text, tally),
-        number => Ok(tally.compared(is_refused_alike(input, text, number)?)),
+    match replay::read_answer(input)? {
+        Ok(counts) => {
+            let [nodes, comments] = counts;
+            replay::pass_records(input, nodes, comments)?;
+            compare_prints(input, text, tally)
+        }
+        Err(numbers) => Ok(tally.compared(is_refused_alike(text, numbers))),
     }
 }
 

@@ -32,7 +32,7 @@ struct Entry<'a> {
 impl Entry<'_> {
     // Whether the verdict is this refusal, at this place.
     fn is_refused(self, kind: ErrorKind, place: u32) -> bool {
-        self.verdict == kind.number() && self.place == place
+        self.verdict == u32::from(kind) && self.place == place
     }
 }
 
@@ -121,7 +121,7 @@ fn same_span(row: &[u8], at: usize, span: Span, pairs: u32) -> bool
 // Whether a row is this token.
 fn same_token(row: &[u8; ROW], token: ParserToken, pairs: u32) -> bool {
     let ParserToken { token, loc } = token;
-    replay::number(row, 0) == token.code()
+    replay::number(row, 0) == u32::from(token)
         && same_span(row, 4, loc.start, pairs)
         && same_span(row, 16, loc.end, pairs)
 }
@@ -179,6 +179,7 @@ fn compare_next(list: &mut List, tally: Tally) -> Result<Tally, ListError> {
 }
 
 // Compares so many texts, writes the index of each that differs, and tells what was found.
+// Not by `replay::replay`, which reads a stream: this list is a slice in memory, with an error of its own.
 fn compare(out: Stdout, mut list: List, texts: u32) -> io::Result<Result<Tally, ListError>> {
     let mut tally = Tally::new();
     for index in 0..texts {

@@ -1,7 +1,7 @@
 pub mod Part
 pub mod Arms
 pub mod RunLaws
-pub mod UntilLaws
+pub mod OneByte
 pub mod Spins
 pub mod ScanLaws
 pub mod WordLaws

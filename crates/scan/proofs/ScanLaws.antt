@@ -1,13 +1,15 @@
 -- What each branch of src/lib.rt finds, from where its scan stands.
-use mathlib.Core.Path.{◌≡◌, refl, ◌∙◌, subst}
+use mathlib.Core.Path.{◌≡◌, refl, ap, ◌∙◌, subst}
 use mathlib.Core.Logic.{⊎_elim}
-use mathlib.Core.Bool.{Bool, true, false}
+use mathlib.Core.Bool.{Bool, true, false, cond, ◌&&◌}
 use mathlib.Core.List.{List, [], ◌∷◌}
 use Prim.Native.Nat.{ℕ, ◌+◌, ◌-◌, ◌<◌, ◌≤◌}
 use native.Mathlib.Omega.{arith}
-use borrow.Author.Tests.{eq-eqb, ne_eqb, lt-ltb, le-ltb, le-leb, lt-leb}
+use borrow.Author.Tests.{eq-eqb, eqb-true, ne_eqb, lt-ltb, le-ltb, le-leb, lt-leb, leb-true, leb-false, ltb-true, ltb-false}
+use lib.Dec.{eqb, leb, ltb}
 use lib.ListN.{length, get_or}
 use Rattle.token.specs.Scan.{keep, scan_from, scan}
+use Rattle.token.specs.Tables.{classes}
 use Rattle.token.specs.Run.{class_of}
 use Rattle.token.specs.Automaton.{
   State,
@@ -46,8 +48,10 @@ use Rattle.token.specs.declared.Token.{Token}
 use Rattle.token.specs.declared.Token.TheVariants as T
 use Rattle.token.specs.Scanned.{Scan}
 use Rattle.std.specs.Prelude.{Some, None}
+use Rattle.std.specs.Bool.{MatchBool}
 use Rattle.token.proofs.Numbers.{lt_or_le}
 use Rattle.token.proofs.Reach.{Spins, ended, run_stops, reach_step, reach_end, reach_stop, reach_run, reach_like}
+use Rattle.scan.proofs.OneByte.{class_star, class_slash}
 use Rattle.scan.proofs.Spins.{
   spins_whole,
   spins_fraction,
@@ -56,7 +60,6 @@ use Rattle.scan.proofs.Spins.{
   spins_named,
   spins_blanks,
   spins_comment,
-  spins_block,
   spins_string,
 }
 
@@ -249,34 +252,42 @@ module _ (q : Bool) {t : List ℕ} {i : ℕ} (r : Reached t (in_string q) i None
 
 -- ---- block_of, slash_of
 
-module _ {t : List ℕ} {i : ℕ} (r : Reached t block i None) (j : ℕ) (e : j ≡ ended 37 38 t i) where
-  block_run : Reached t block j None
-  unfolding keep kind_at
-  block_run = rw e (reach_run r 37 38 spins_block refl)
+-- the state within a block comment behind a byte, a star or not
+abbrev pub behind : ℕ → State
+behind c = cond (eqb c 42) block_star block
 
-  pub block_end : length t ≤ j → longest t ≡ None
-  block_end h = reach_end block_run h
+open_behind : (c n : ℕ) → keep (kind_at (behind c)) n None ≡ None
+unfolding keep kind_at
+open_behind c n = go (eqb c 42)
+  where
+    go : (b : Bool) → keep (kind_at (cond b block_star block)) n None ≡ None
+    go true = refl
+    go false = refl
 
-  module _ (h : j < length t) where
-    block_star_law : Reached t block_star (j + 1) None
-    unfolding step keep kind_at
-    block_star_law =
-        let f = run_stops 37 38 t i r.inside (rw e at h) in
-        let k : class_of (get_or t j 0) ≡ 37 = omega (arith, rw (← e) at f.0, rw (← e) at f.1) in
-        reach_to block_run 37 h k block_star refl
+-- behind a byte that does not close the comment
+block_byte : {t : List ℕ} {s : State} {i : ℕ} → Reached t s i None → i < length t → step s (class_of (get_or t i 0)) ≡ behind (get_or t i 0)
+    → Reached t (behind (get_or t i 0)) (i + 1) None
+block_byte {t} {i = i} r h e = rw (open_behind (get_or t i 0) (i + 1)) at (reach_to r (class_of (get_or t i 0)) h refl (behind (get_or t i 0)) e)
 
-    pub star_end : length t ≤ j + 1 → longest t ≡ None
-    star_end g = reach_end block_star_law g
+pub block_first : {t : List ℕ} → Reached t block 2 None → 2 < length t → Reached t (behind (get_or t 2 0)) 3 None
+unfolding step
+block_first {t} r h = block_byte r h (rw (class_star (get_or t 2 0) (r.bytes 2)))
 
-    pub star_close : j + 1 < length t → class_of (get_or t (j + 1) 0) ≡ 38 → longest t ≡ Some (T.BlockComment, j + 2)
-    unfolding step keep kind_at
-    star_close g l =
-        let m : j + 1 + 1 ≡ j + 2 = omega arith in
-        closed_done (rw m at (reach_to block_star_law 38 g l (closed T.BlockComment) refl))
+module _ {t : List ℕ} {i : ℕ} (p : ℕ) (r : Reached t (behind p) i None) (h : i < length t) where
+  pub block_close : get_or t i 0 ≡ 47 → p ≡ 42 → longest t ≡ Some (T.BlockComment, i + 1)
+  unfolding step keep kind_at class_of classes
+  block_close c d =
+      let g : Reached t block_star i None = rw d at r in
+      closed_done (reach_to g 38 h (ap class_of c) (closed T.BlockComment) refl)
 
-    pub star_on : j + 1 < length t → (class_of (get_or t (j + 1) 0) ≡ 38 → ⊥) → Reached t block (j + 1) None
-    unfolding step
-    star_on g l = reach_like block_star_law block (class_of (get_or t (j + 1) 0)) g refl (rw (ne_eqb _ _ l))
+  pub block_on : (get_or t i 0 ≡ 47 → p ≡ 42 → ⊥) → Reached t (behind (get_or t i 0)) (i + 1) None
+  unfolding step
+  block_on n = block_byte r h (go (eqb p 42) refl (eqb (get_or t i 0) 47) refl)
+    where
+      go : (a : Bool) → eqb p 42 ≡ a → (b : Bool) → eqb (get_or t i 0) 47 ≡ b → step (cond a block_star block) (class_of (get_or t i 0)) ≡ behind (get_or t i 0)
+      go false e b f = rw (class_star (get_or t i 0) (r.bytes i))
+      go true e false f = rw (← class_star (get_or t i 0) (r.bytes i), ← class_slash (get_or t i 0) (r.bytes i), f)
+      go true e true f = absurd (n (eqb-true _ _ f) (eqb-true _ _ e))
 
 -- a line comment ends where its line does
 pub comment_done : {t : List ℕ} {i : ℕ} → Reached t comment i (Some (T.LineComment, i)) → longest t ≡ Some (T.LineComment, ended 39 40 t i)
@@ -333,6 +344,21 @@ module _ {t : List ℕ} {i : ℕ} (r : Reached t named i (Some (T.Identifier, i)
     dot_on g l u =
         let m : i + 1 + 1 ≡ i + 2 = omega arith in
         rw m at (reach_to name_dot_law (class_of (get_or t (i + 1) 0)) g refl named (rw (le-leb _ _ l, lt-ltb _ _ u)))
+
+-- the test of the byte behind the dot decides
+pub dot_next : {t : List ℕ} {i : ℕ} → Reached t named i (Some (T.Identifier, i)) → (h : i < length t) → 36 ≤ class_of (get_or t i 0) → class_of (get_or t i 0) ≡ 36 → i + 1 < length t
+    → (b : Bool) → b ≡ (leb 8 (class_of (get_or t (i + 1) 0)) && ltb (class_of (get_or t (i + 1) 0)) 36)
+    → MatchBool b ((i + 1 < length t) × Reached t named (i + 2) (Some (T.Identifier, i + 2))) (longest t ≡ Some (T.Identifier, i))
+dot_next {t} {i} r h s d g b e = go b e (leb 8 (class_of (get_or t (i + 1) 0))) refl (ltb (class_of (get_or t (i + 1) 0)) 36) refl
+  where
+    k : ℕ
+    k = class_of (get_or t (i + 1) 0)
+
+    go : (b : Bool) → b ≡ (leb 8 k && ltb k 36) → (x : Bool) → leb 8 k ≡ x → (y : Bool) → ltb k 36 ≡ y
+        → MatchBool b ((i + 1 < length t) × Reached t named (i + 2) (Some (T.Identifier, i + 2))) (longest t ≡ Some (T.Identifier, i))
+    go b e true p true q = rw (e, p, q) (g, dot_on r h s d g (leb-true 8 k p) (ltb-true k 36 q))
+    go b e true p false q = rw (e, p, q) (dot_sign r h s d g (ltb-false k 36 q))
+    go b e false p y q = rw (e, p) (dot_digit r h s d g (leb-false 8 k p))
 
 pub letter_on : {t : List ℕ} {i : ℕ} → Reached t named i (Some (T.Identifier, i)) → i < length t → class_of (get_or t i 0) < 36 → Reached t named (i + 1) (Some (T.Identifier, i + 1))
 unfolding step keep kind_at

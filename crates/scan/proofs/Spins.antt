@@ -5,7 +5,7 @@ use mathlib.Core.Bool.{Bool, true, false}
 use Prim.Native.Nat.{◌+◌}
 use native.Mathlib.Omega.{arith}
 use borrow.Author.Tests.{eq-eqb, ne_eqb, lt-ltb}
-use Rattle.token.specs.Automaton.{blanks, comment, whole, fraction, exponent_digit, hex_digits, named, block, in_string, step, stop}
+use Rattle.token.specs.Automaton.{blanks, comment, whole, fraction, exponent_digit, hex_digits, named, in_string, step, stop}
 use Rattle.token.proofs.Reach.{Spins}
 
 pub spins_whole : Spins whole 8 60
@@ -42,11 +42,6 @@ pub spins_comment : Spins comment 39 40
 unfolding step
 spins_comment k h (inl l) = let e : (k ≡ 39) → ⊥ = λ f. omega arith in rw (ne_eqb k 39 e)
 spins_comment k h (inr l) = let e : (k ≡ 39) → ⊥ = λ f. omega arith in rw (ne_eqb k 39 e)
-
-pub spins_block : Spins block 37 38
-unfolding step
-spins_block k h (inl l) = let e : (k ≡ 37) → ⊥ = λ f. omega arith in rw (ne_eqb k 37 e)
-spins_block k h (inr l) = let e : (k ≡ 37) → ⊥ = λ f. omega arith in rw (ne_eqb k 37 e)
 
 pub spins_string : (q : Bool) → Spins (in_string q) (stop q) (stop q + 2)
 unfolding step

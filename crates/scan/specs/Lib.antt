@@ -1,1 +1,1 @@
-pub mod Until
+pub mod First

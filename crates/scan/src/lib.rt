@@ -1,21 +1,23 @@
-// Which token starts a text, and how long it is: branches over the classes of its bytes. A byte is looked at once, but for the stars of a block comment and two bytes at most behind a token.
+// Which token starts a text, and how long it is: branches over the classes of its bytes. A byte is looked at once, but for those before a block comment's slashes and two bytes at most behind a token.
 #![tactic(auto)]
 
 pub mod table;
 mod words;
 
 ghost use Rattle.std.specs.Prelude.{◌≡◌, ◌&&◌, ◌||◌, eqb, leb, ltb, ◌+◌, ◌<◌, ◌≤◌, length, drop, get_or};
+ghost use Rattle.std.specs.Bool.{MatchBool};
 ghost use Rattle.token.specs.Scan.{scan};
 ghost use Rattle.token.specs.Run.{class_of, before};
 ghost use Rattle.token.specs.Automaton.{State, Reached, longest, opened, quote, stop};
 ghost use Rattle.token.specs.WordNumber.{start, no_keyword, numbers, word_from};
 ghost use Rattle.token.specs.declared.Token.TheVariants as T;
-ghost use Rattle.scan.specs.Until.{until};
+ghost use Rattle.scan.specs.First.{First};
 
 use table::CLASSES;
 use token::{Scan, Token};
 
 // The classes, in the order of their numbers: the digits are those below E, the letters go on to the dot.
+// Numbers, and no enum: it is their order that the branches test.
 const E: u8 = 8;
 
 const HEX: u8 = 10;
@@ -89,31 +91,38 @@ pub fn class_at(text: &[u8], i: usize) -> u8
     class_of(text[i])
 }
 
-// The first place from `at` on whose byte has a class from `from` on and below `to`; the end if there is none.
-fn run(text: &[u8], at: usize, from: u8, to: u8) -> usize
-    requires { at ≤ length text.now }
-    ensures { result ≡ at + before from to (drop at text.now) }
+// The first place from `at` on whose byte passes the test; the end if there is none.
+#[inline(always)]
+fn find<F: Fn(u8) -> bool>(text: &[u8], at: usize, test: F) -> usize
+    requires within { at ≤ length text.now }
+    requires callable { F.IsAlwaysCallable test }
+    ensures { First (F.post test) text.now at result }
 {
     for i in at..text.len() {
-        let k = class_at(text, i);
-        if from <= k && k < to {
+        if test(text[i]) {
             return i;
         }
     }
     text.len()
 }
 
-// The first place from `at` on where the byte stands; the end if there is none.
-fn find(text: &[u8], at: usize, byte: u8) -> usize
+// The first place from `at` on whose byte has a class from `from` on and below `to`; the end if there is none.
+fn run(text: &[u8], at: usize, from: u8, to: u8) -> usize
     requires { at ≤ length text.now }
-    ensures { result ≡ at + until byte (drop at text.now) }
+    ensures { result ≡ at + before from to (drop at text.now) }
 {
-    for i in at..text.len() {
-        if text[i] == byte {
-            return i;
-        }
-    }
-    text.len()
+    find(text, at, |byte| {
+        let k = class_of(byte);
+        from <= k && k < to
+    })
+}
+
+// The first place from `at` on where a line feed stands; the end if there is none.
+fn find_line_feed(text: &[u8], at: usize) -> usize
+    requires { at ≤ length text.now }
+    ensures { result ≡ at + before 39 40 (drop at text.now) }
+{
+    find(text, at, |byte| byte == b'\n')
 }
 
 // What answers a Scan is inlined: called, it would answer through memory, and each caller would copy the answer.
@@ -263,7 +272,7 @@ fn stop_of(double: bool) -> u8
     if double { DOUBLE_QUOTE } else { BACKSLASH }
 }
 
-// The string that starts with `"` or `'`.
+// The string that starts with `"` or `'`; which quote it is is the state of the scan's definition.
 // It goes on from mark to mark by `run`, so no iterator over bytes fits.
 #[inline(always)]
 fn string_of(text: &[u8], double: bool) -> Scan
@@ -292,28 +301,18 @@ fn string_of(text: &[u8], double: bool) -> Scan
     }
 }
 
-// The block comment, its `/*` read.
-// It goes on from star to star by `find`.
+// The block comment, its `/*` read: it ends with the first slash behind a star that is not the one read.
 #[inline(always)]
 fn block_of(text: &[u8]) -> Scan
     requires { Reached text.now State.block 2 None }
     ensures { result ≡ longest text.now }
 {
-    let mut i: usize = 2;
-    // a step goes to the next star
-    loop {
-        let j = find(text, i, b'*');
-        if text.len() <= j {
-            return None;
+    for i in 3..text.len() {
+        if text[i] == b'/' && text[i - 1] == b'*' {
+            return Some((Token::BlockComment, i + 1));
         }
-        if text.len() <= j + 1 {
-            return None;
-        }
-        if class_at(text, j + 1) == SLASH {
-            return Some((Token::BlockComment, j + 2));
-        }
-        i = j + 1;
     }
+    None
 }
 
 // The comment that starts with a slash.
@@ -327,12 +326,21 @@ fn slash_of(text: &[u8]) -> Scan
     }
     let k = class_at(text, 1);
     if k == SLASH {
-        return Some((Token::LineComment, find(text, 2, b'\n')));
+        return Some((Token::LineComment, find_line_feed(text, 2)));
     }
     if k == STAR {
         return block_of(text);
     }
     None
+}
+
+// Whether the word goes on behind its piece that ends at `i`: a dot and a letter stand there.
+#[inline(always)]
+fn goes_on(text: &[u8], i: usize) -> bool
+    requires { (i < length text.now) × (36 ≤ class_of (get_or text.now i 0)) × Reached text.now State.named i (Some (T.Identifier, i)) }
+    ensures { MatchBool result ((i + 1 < length text.now) × Reached text.now State.named (i + 2) (Some (T.Identifier, i + 2))) (longest text.now ≡ Some (T.Identifier, i)) }
+{
+    class_at(text, i) == DOT && i + 1 < text.len() && is_letter(class_at(text, i + 1))
 }
 
 // Where the identifier that goes on at `at` ends, a keyword or not.
@@ -344,20 +352,7 @@ fn name_end(text: &[u8], at: usize) -> usize
 {
     let mut i = run(text, at, DOT, ALL);
     // a step is a part between dots
-    while i < text.len() {
-        if class_at(text, i) != DOT {
-            return i;
-        }
-        if text.len() <= i + 1 {
-            return i;
-        }
-        let k = class_at(text, i + 1);
-        if k < E {
-            return i;
-        }
-        if DOT <= k {
-            return i;
-        }
+    while i < text.len() && goes_on(text, i) {
         i = run(text, i + 2, DOT, ALL);
     }
     i
@@ -387,20 +382,10 @@ fn word_end(text: &[u8], i: usize, number: u8) -> Scan
     requires { (i < length text.now) × (36 ≤ class_of (get_or text.now i 0)) × Reached text.now State.named i (Some (T.Identifier, i)) × (number < numbers) }
     ensures { result ≡ word_from number i text.now (longest text.now) }
 {
-    if class_at(text, i) != DOT {
-        return Some((words::kind_of(number), i));
+    if goes_on(text, i) {
+        return name_of(text, i + 2);
     }
-    if text.len() <= i + 1 {
-        return Some((words::kind_of(number), i));
-    }
-    let k = class_at(text, i + 1);
-    if k < E {
-        return Some((words::kind_of(number), i));
-    }
-    if DOT <= k {
-        return Some((words::kind_of(number), i));
-    }
-    name_of(text, i + 2)
+    Some((words::kind_of(number), i))
 }
 
 // The word that goes on at `at`, its bytes so far known by their number alone: any number, whatever they were.
@@ -436,7 +421,7 @@ fn word_of(text: &[u8], first: u8) -> Scan
     word_from(text, 1, number)
 }
 
-// The token of one byte, by its class.
+// The token of one byte, by its class: the classes from `MARK` on are told apart here alone.
 #[inline(always)]
 pub fn mark_of(k: u8) -> Scan
     ensures { result ≡ opened k }
@@ -467,28 +452,16 @@ fn sign_of(text: &[u8], k: u8) -> Scan
     requires { (0 < length text.now) × (k ≡ class_of (get_or text.now 0 0)) × (36 ≤ k) × Reached text.now State.start 0 None }
     ensures { result ≡ longest text.now }
 {
-    if k == BLANK {
-        return Some((Token::Blank, run(text, 1, 0, BLANK)));
+    match k {
+        BLANK => Some((Token::Blank, run(text, 1, 0, BLANK))),
+        DOUBLE_QUOTE => string_of(text, true),
+        SINGLE_QUOTE => string_of(text, false),
+        HASH => Some((Token::LineComment, find_line_feed(text, 1))),
+        SLASH => slash_of(text),
+        SIGN => signed_of(text),
+        DOT => dot_of(text),
+        _ => mark_of(k),
     }
-    if k == DOUBLE_QUOTE {
-        return string_of(text, true);
-    }
-    if k == SINGLE_QUOTE {
-        return string_of(text, false);
-    }
-    if k == HASH {
-        return Some((Token::LineComment, find(text, 1, b'\n')));
-    }
-    if k == SLASH {
-        return slash_of(text);
-    }
-    if k == SIGN {
-        return signed_of(text);
-    }
-    if k == DOT {
-        return dot_of(text);
-    }
-    mark_of(k)
 }
 
 // The token that starts a text.

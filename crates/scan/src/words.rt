@@ -6,6 +6,7 @@ use crate::table::TRIE;
 use token::Token;
 
 // The number at the start of a word, and the one where no keyword begins with the bytes so far.
+// The second is a state of the table like any other, so no `None` stands for it.
 pub const START: u8 = 1;
 
 pub const NO_KEYWORD: u8 = 0;
@@ -23,7 +24,7 @@ pub fn step(number: u8, k: u8) -> u8
     }
 }
 
-// The kind of the word with this number.
+// The kind of the word with this number: the numbers are the table's own, each used here alone.
 #[inline(always)]
 pub fn kind_of(number: u8) -> Token
     ensures { result ≡ kind_of number }

@@ -24,7 +24,7 @@ pub enum What {
     Unrecognized,
 }
 
-// It with its bytes: from `start` on and below `end`. There are none where there is no token.
+// It with its bytes: from `start` on and below `end`. There are none where there is no token: both are the place then, which is asked for there too.
 #[derive(Clone, Copy, Debug, PartialEq, Eq)]
 pub struct Piece {
     pub what: What,

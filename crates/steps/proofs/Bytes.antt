@@ -5,7 +5,6 @@
 --     falls_rests, fall_rest, rest_fall, rest_rest       of one behind another
 --     after_w, cond_w, cond_known, weak_w     through a call and what follows it, and a test
 --     opened_w, advanced_w        behind a node that is begun, and behind the token ahead
---     rested              the same by the call that returned the state
 --     passed_is, comments_is      a skip is its first token, and then a skip
 use mathlib.Core.Path.{◌≡◌, refl, sym, ◌∙◌}
 use mathlib.Core.Bool.{Bool, true, false, cond, false≢true}
@@ -110,9 +109,6 @@ module _ {text : List ℕ} where
   pub within_left : {x b : ℕ} {o : Out} {st : State} {t u : List ℕ} → Within text x b o → done st t u ≡ o → x + bytes_left text st ≤ b
   within_left {st = st} (within {st = st₁} h) e = let a : st ≡ st₁ = cc in rw a h
   within_left stopped e = let z : ◌≡◌ {A = ℕ} 0 1 = cc in absurd (omega arith)
-
-  pub rested : (m : M) → Rests text m → (st : State) (t u : List ℕ) {st' : State} {t' u' : List ℕ} → done st' t' u' ≡ m st t u → bytes_left text st' ≤ bytes_left text st
-  rested m f st t u e = omega (arith, within_left (f st t u) e)
 
 -- ---- the steps
 

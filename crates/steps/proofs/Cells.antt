@@ -6,13 +6,13 @@ use Prim.Native.Nat.{ℕ, min, suc, ◌+◌, ◌*◌, ◌-◌, ◌/◌, ◌≤�
 use native.Mathlib.Omega.{arith}
 use borrow.Author.Tests.{le-leb, lt-leb, leb-true, leb-false, ltb-true, ltb-false}
 use lib.Dec.{leb, ltb}
-use lib.ListN.{length, take, drop, set, get_or, replicate, length-append, length-drop}
+use lib.ListN.{length, take, drop, set, get_or, length-append}
 use lib.Seq.{sets-eq, set_at, drop-cons, length-take-le}
 use Rattle.lexer.specs.declared.location.LOC.{LOC}
 use Rattle.ast.specs.Column.{Past}
 use Rattle.ast.specs.Records.{comment_width, node_width, row, node_row, room, cleared}
 use Rattle.ast.specs.Clear.{Cleared}
-use Rattle.ast.proofs.ClearLaws.{cleared_by, cleared_all}
+use Rattle.ast.proofs.ClearLaws.{cleared_by}
 use Rattle.ast.proofs.Counts.{Wide, node_row_width}
 use Rattle.steps.specs.declared.packed.Range.{Range}
 use Rattle.steps.specs.Packed.{unpacked, unpacked_loc}
@@ -42,17 +42,6 @@ pub row_on : (at k p f : ℕ) (l : Range) (t : List ℕ) → at + comment_width 
     set (set (set starts (at + 6) e.index) (at + 7) e.line) (at + 8) e.column ≡ put_row at (row k p f (unpacked_loc l)) t
 unfolding put_row row comment_width
 row_on at k p f l t h = stores at k p f _ _ _ _ _ _ t h
-
-pub row_kept : (at : ℕ) (r t : List ℕ) → at + length r ≤ length t → length (put_row at r t) ≡ length t
-unfolding put_row
-row_kept at r t h =
-    omega (
-      arith,
-      length-append (take at t) (r ++ drop (at + length r) t),
-      length-append r (drop (at + length r) t),
-      length-take-le at t (omega (arith, h)),
-      length-drop (at + length r) t,
-    )
 
 -- a number behind a row
 behind_row : (at : ℕ) (r t : List ℕ) (e : ℕ) → at + length r < length t → set (put_row at r t) (at + length r) e ≡ put_row at (r ++ e ∷ []) t
@@ -100,10 +89,6 @@ wipe_all t = let n : length t - 0 ≡ length t = omega arith in rw n
 pub clears : (n : ℕ) (l l' : List ℕ) → Cleared (λ z. z ≡ 0) n l l' → l' ≡ wiped n l
 unfolding wiped
 clears n l l' c = cleared_by 0 n l l' c
-
-pub cleared_of : (z : ℕ) (l l' : List ℕ) → z ≡ 0 → l' ≡ replicate (length l - 0) z → l' ≡ cleared l
-unfolding cleared
-cleared_of z l l' e h = cleared_all 0 l l' (z, e, h)
 
 pub sum_least : (a b : ℕ) → b ≤ 4294967295 → min (a + b) 4294967295 ≡ sum a b
 unfolding sum

@@ -8,10 +8,12 @@
 --     halts                     a refusal at the token ahead
 --     when, unless              a test, by what decides it
 --     left_by, text_by          what a call leaves
+--     accepted, declined        a token that is taken if it is ahead
 use mathlib.Core.Path.{◌≡◌, refl, sym, ap, ◌∙◌}
 use mathlib.Core.Bool.{Bool, true, false, cond}
 use mathlib.Core.List.{List}
 use Prim.Native.Nat.{ℕ}
+use lib.Dec.{eqb}
 use Rattle.std.specs.Prelude.{⊤, Ok, Err}
 use Rattle.std.specs.Result.{IsErr, IsErrAnd}
 use Rattle.std.proofs.lemmas.Result.{err_from_is_err_and}
@@ -20,8 +22,8 @@ use Rattle.lexer.specs.declared.error.ErrorKind.{ErrorKind}
 use Rattle.steps.specs.declared.state.Parser.{Parser}
 use Rattle.steps.specs.declared.state.State.{State}
 use Rattle.steps.specs.declared.state.Raised.{Raised}
-use Rattle.steps.specs.Into.{Out, done, stop, M, after, refused}
-use Rattle.steps.specs.Reads.{Source, source, Parsed, tells, Reads, Does}
+use Rattle.steps.specs.Into.{Out, done, stop, M, accept_in, advance_in, after, code_of, refused}
+use Rattle.steps.specs.Reads.{Source, source, Accepts, Parsed, tells, Reads, Does}
 
 -- X is what is left to do, from the parser t, and s is the parser that the function began with
 pub record Left (Z : Out) (s : Parser) (X : Out) (t : Parser) : Type 0 where
@@ -107,3 +109,15 @@ left_by {m} {s} {t} {st} {a} {b} w e = let h : done t.state t.nodes.now t.commen
 
 pub text_by : {m : Source → M} {s t : Parser} {r : Parsed} → Reads m s t r → t.text.now ≡ s.text.now
 text_by w = ap (λ (x : Source). x.text) w.same
+
+-- ---- a token that is taken if it is ahead: m is what follows
+
+module _ {Z : Out} {s t u : Parser} {k : ℕ} {r : Bool} (w : Accepts k t u r) (A : Out) (m : M) where
+  pub accepted : r ≡ true → Left Z s (cond (eqb (code_of t.state) k) (after (advance_in s.text.now t.state t.nodes.now t.comments.now) m) A) t
+      → Left Z s (m u.state u.nodes.now u.comments.now) u
+  unfolding after accept_in advance_in
+  accepted h v = let e : eqb (code_of t.state) k ≡ true = sym w.was ∙ h in kept w.goes m (so _ (rw e) (when _ _ _ _ w.was h v))
+
+  pub declined : r ≡ false → Left Z s (cond (eqb (code_of t.state) k) A (m t.state t.nodes.now t.comments.now)) t → Left Z s (m u.state u.nodes.now u.comments.now) u
+  unfolding after accept_in
+  declined h v = let e : eqb (code_of t.state) k ≡ false = sym w.was ∙ h in kept w.goes m (so _ (rw e) (unless _ _ _ _ w.was h v))

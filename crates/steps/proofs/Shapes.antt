@@ -1,7 +1,6 @@
 -- How what the code does is grouped.
 --     assoc, assoc₂, assoc₃      what follows what follows
 --     halted             nothing follows a refusal
---     enclosed_is        a node that is enclosed
 --     noted              a node's own record
 use mathlib.Core.Path.{◌≡◌, refl, ap, ◌∙◌}
 use mathlib.Core.Bool.{Bool, true, false, cond}
@@ -9,7 +8,7 @@ use mathlib.Core.List.{List}
 use Prim.Native.Nat.{ℕ}
 use lib.Dec.{eqb}
 use Rattle.steps.specs.declared.state.State.{State}
-use Rattle.steps.specs.Into.{code_of, Out, done, stop, M, ◌⨟◌, after, opened, open_in, node_in, refused, enclosed_in}
+use Rattle.steps.specs.Into.{code_of, Out, done, stop, M, ◌⨟◌, after, node_in, refused}
 
 pub assoc : (o : Out) (k j : M) → after (after o k) j ≡ after o (k ⨟ j)
 unfolding after
@@ -31,10 +30,6 @@ halted e st t u k = go (eqb (code_of st) 255)
     go : (b : Bool) → after (cond b (stop 3 st.last t u) (stop e st.loc t u)) k ≡ cond b (stop 3 st.last t u) (stop e st.loc t u)
     go true = refl
     go false = refl
-
-pub enclosed_is : (k s b p : ℕ) (inside : ℕ → M) (st : State) (t u : List ℕ) → enclosed_in k s b p inside st t u ≡ after (inside st.next (opened st) t u) (node_in st.next k 0 s b p)
-unfolding enclosed_in open_in after
-enclosed_is k s b p inside st t u = refl
 
 -- a node's record, its flags as the code has them
 pub noted : (n k s b p : ℕ) (st : State) (t u : List ℕ) {f g : ℕ} → f ≡ g → node_in n k f s b p st t u ≡ node_in n k g s b p st t u

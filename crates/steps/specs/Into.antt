@@ -160,6 +160,10 @@ take_in text st t u = cond (eqb (code_of st) no_token) (refused E.UnexpectedEOF 
 unfoldable pub expect_in : List ℕ → ℕ → ℕ → M
 expect_in text k e st t u = cond (eqb (code_of st) k) (take_in text st t u) (refused e st t u)
 
+-- the token ahead, if it is of one kind
+unfoldable pub accept_in : List ℕ → ℕ → M
+accept_in text k st t u = cond (eqb (code_of st) k) (done (advanced text st) t u) (done st t u)
+
 -- the bytes behind the lexer, and one for the token ahead; none where no token is ahead. What takes a token makes them fall, so a loop has at most
 -- one turn more than bytes are left, and each below is its first turn and then itself (passed_is and comments_is in proofs/Bytes, loop_is in LoopForms)
 unfoldable pub bytes_left : List ℕ → State → ℕ

@@ -1,11 +1,11 @@
 -- The contract of what reads: what it does to the state and to both tables, from the text, and what it answers.
-use Rattle.std.specs.Prelude.{◌≡◌, ◌<◌, ⊤, List, ℕ, Ok, Err}
+use Rattle.std.specs.Prelude.{◌≡◌, ◌<◌, ⊤, Bool, List, ℕ, Ok, Err, eqb}
 use Rattle.std.specs.declared.result.Result.{Result}
 use Rattle.lexer.specs.Refusal.{number_of}
 use Rattle.steps.specs.declared.state.Parser.{Parser}
 use Rattle.steps.specs.declared.state.State.{State}
 use Rattle.steps.specs.declared.state.Raised.{Raised}
-use Rattle.steps.specs.Into.{Out, done, stop, M, bytes_left}
+use Rattle.steps.specs.Into.{Out, done, stop, M, accept_in, bytes_left, code_of}
 
 -- the text, and the number of the first record in the node table that is lent
 pub record Source : Type 0 where
@@ -33,6 +33,11 @@ pub record Reads (m : Source → M) (s t : Parser) (r : Parsed) : Type 0 where
 -- of a step that refuses nothing
 abbrev pub Does : (Source → M) → Parser → Parser → Type 0
 Does m s t = Reads m s t (Ok tt)
+
+-- of a step that takes the token ahead if it is of one kind, and says whether it was
+pub record Accepts (k : ℕ) (s t : Parser) (r : Bool) : Type 0 where
+  pub was : r ≡ eqb (code_of s.state) k
+  pub goes : Does (λ x. accept_in x.text k) s t
 
 abbrev pub left_of : Parser → ℕ
 left_of p = bytes_left p.text.now p.state

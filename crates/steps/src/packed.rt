@@ -1,4 +1,4 @@
-// Places in 64 bits each: the readers hand the state on by value, and so it stays small.
+// Places in 64 bits each: two numbers are set for each token, and not twelve.
 ghost use Rattle.std.specs.Prelude.{◌≡◌};
 ghost use Rattle.steps.specs.Packed.{Small, packed, packed_loc, unpacked};
 

@@ -19,7 +19,7 @@ pub struct Ahead {
 // The lexer stands at the end of the token ahead.
 #[derive(Clone, Copy, Debug, PartialEq, Eq)]
 pub struct State {
-    // where the token ahead stands; where none is left, the last one
+    // where the token ahead stands; where none is left, the last one: so it is no field of an `Option<Ahead>`
     pub loc: Range,
     // where the last token taken stands
     pub last: Range,
@@ -79,12 +79,12 @@ impl State {
 }
 
 impl Parser<'_> {
-    ghost use Rattle.std.specs.Prelude.{◌≡◌, ◌≤◌, List, ℕ, true, eqb};
+    ghost use Rattle.std.specs.Prelude.{◌≡◌, ◌≤◌, Bool, true, false, List, ℕ, eqb};
     ghost use Rattle.token.specs.Code.{code};
     ghost use Rattle.lexer.specs.Refusal.{number_of as error_number};
     ghost use Rattle.ast.specs.KindNumber.{number_of};
-    ghost use Rattle.steps.specs.Into.{M, advance_in, begin_node_in, closes_at, code_of, enclosed_in, expect_in, Falls, is_comment, is_separator, leaf_in, loop_in, node_in, numbered, open_in, own_in, passes, place_of, refused, Rests, skip_comments_in, skip_in, stop, take_in, wait_in};
-    ghost use Rattle.steps.specs.Reads.{Source, Reads, Does, left_of, Shortens};
+    ghost use Rattle.steps.specs.Into.{M, advance_in, begin_node_in, closes_at, code_of, enclosed_in, expect_in, Falls, is_comment, is_separator, leaf_in, loop_in, no_token, node_in, numbered, open_in, own_in, passes, place_of, refused, Rests, skip_comments_in, skip_in, stop, take_in, wait_in};
+    ghost use Rattle.steps.specs.Reads.{Source, Accepts, Reads, Does, left_of, Shortens};
 
     // Whether the token ahead is of this kind.
     pub fn is(&self, token: Token) -> bool
@@ -168,36 +168,71 @@ impl Parser<'_> {
         Ok(())
     }
 
-    // Whether a skip passes over the token ahead: a separator (`separators`), a comment (else).
-    fn passes(&self, separators: bool) -> bool
-        ensures { result ≡ passes (code_of self.now.state) separators }
+    // The token ahead, if it is of one kind; whether it was.
+    pub fn accept(&mut self, token: Token) -> bool
+        ensures { Accepts (code token) self.old self.new result }
     {
-        if separators {
-            self.is_separator()
-        } else {
-            self.is_comment()
+        let accepts = self.is(token);
+        if accepts {
+            self.advance();
         }
+        accepts
     }
 
-    // skip_separator (`separators`), skip_comments_discard (else).
-    pub fn skip(&mut self, separators: bool)
-        ensures { Does (λ x. skip_in x.text separators) self.old self.new }
+    // Past the tokens to which `is_passed` says yes.
+    fn skip_while<F: Fn(&Parser) -> bool>(&mut self, is_passed: F)
+        requires callable { F.IsAlwaysCallable is_passed }
+        requires some { (s : _) → F.post is_passed s true → eqb (code_of s.now.state) no_token ≡ false }
+        ensures { (b : Bool) → ((s : _) (r : _) → F.post is_passed s r → r ≡ passes (code_of s.now.state) b) → Does (λ x. skip_in x.text b) self.old self.new }
     {
         // a step is a token
-        while self.passes(separators) {
+        while is_passed(self) {
             self.advance();
         }
     }
 
-    // skip_comments, and with `separators` skip_trivia: the comments wait.
-    pub fn skip_comments(&mut self, separators: bool)
-        ensures { Does (λ x. skip_comments_in x.text separators) self.old self.new }
+    // skip_separator; this and the next are one call each, by rico's two names.
+    pub fn skip_separators(&mut self)
+        ensures { Does (λ x. skip_in x.text true) self.old self.new }
+    {
+        self.skip_while(
+            |p: &Parser| -> bool
+                ensures { result ≡ is_separator (code_of p.now.state) }
+            { p.is_separator() },
+        )
+    }
+
+    // skip_comments_discard
+    pub fn skip_comments_discard(&mut self)
+        ensures { Does (λ x. skip_in x.text false) self.old self.new }
+    {
+        self.skip_while(
+            |p: &Parser| -> bool
+                ensures { result ≡ is_comment (code_of p.now.state) }
+            { p.is_comment() },
+        )
+    }
+
+    // skip_comments: the comments wait.
+    pub fn skip_comments(&mut self)
+        ensures { Does (λ x. skip_comments_in x.text false) self.old self.new }
+    {
+        // a step is a token
+        while self.is_comment() {
+            self.wait();
+            self.advance();
+        }
+    }
+
+    // skip_trivia: separators too. Two loops, as rico has: this one has a case more.
+    pub fn skip_trivia(&mut self)
+        ensures { Does (λ x. skip_comments_in x.text true) self.old self.new }
     {
         // a step is a token
         loop {
             if self.is_comment() {
                 self.wait();
-            } else if !separators || !self.is_separator() {
+            } else if !self.is_separator() {
                 return;
             }
             self.advance();

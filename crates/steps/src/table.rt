@@ -33,7 +33,7 @@ fn put_row(table: &mut [u32], at: usize, r: Row)
     ensures { table.new ≡ put_row at (row (number_of r.kind) r.parent r.flags (unpacked_loc r.loc)) table.old }
 {
     let loc = r.loc;
-    table[at] = r.kind.number();
+    table[at] = u32::from(r.kind);
     table[at + 1] = r.parent;
     table[at + 2] = r.flags;
     table[at + 3] = packed::index_of(loc.start);

@@ -2,7 +2,6 @@
 #![tactic(auto)]
 
 ghost use Rattle.std.specs.Prelude.{◌≡◌};
-ghost use Rattle.token.specs.Code.{code};
 
 #[derive(Clone, Copy, Debug, PartialEq, Eq)]
 pub enum Token {
@@ -64,12 +63,14 @@ pub enum Token {
 // What a scan of the start of a text finds: the kind of the longest token and its length, or none.
 pub type Scan = Option<(Token, usize)>;
 
-impl Token {
-    // The number of a kind: its place in the enum, from 0.
+// The number of a kind: its place in the enum, from 0.
+impl From<Token> for u32 {
+    ghost use Rattle.token.specs.Code.{code};
+
+    ghost from_gives = { λ token number. number ≡ code token };
+
     #[tactic(auto, unfolding(crate::specs::Code::code))]
-    pub fn code(self) -> u32
-        ensures { result ≡ code self }
-    {
-        self as u32
+    fn from(token: Token) -> u32 {
+        token as u32
     }
 }

@@ -4,7 +4,6 @@
 ghost use Rattle.std.specs.Prelude.{◌≤◌, length};
 ghost use Rattle.lexer.specs.Limit.{limit};
 
-use lexer::error::Refusal;
 use lexer::location::{Lexer, Next, ParserToken, Span};
 use std::io::Stdout;
 use std::{fmt, io};
@@ -44,7 +43,7 @@ impl fmt::Display for Row {
         write!(
             f,
             "{} {} {}",
-            token.code(),
+            u32::from(token),
             Place(loc.start),
             Place(loc.end)
         )
@@ -67,13 +66,7 @@ fn write_tokens(out: Stdout, text: &[u8]) -> io::Result<()>
 fn write_text(out: Stdout, text: &[u8]) -> io::Result<()> {
     match lexer::check(text) {
         Ok(()) => write_tokens(out, text),
-        Err(
-            Refusal {
-                kind,
-                place,
-                length,
-            },
-        ) => println!(out; "R {} {place} {length}", kind.number()),
+        Err(refusal) => println!(out; "R {refusal}"),
     }
 }
 

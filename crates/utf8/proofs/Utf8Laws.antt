@@ -94,6 +94,10 @@ pub width_rest : (c : ℕ) (w : List ℕ) (rs : List Range) → rest_of sequence
 unfolding apart above sequences
 width_rest c w rs e = rw e at (rest_apart sequences c w refl)
 
+-- no sequence starts with c
+pub none_starts : (c : ℕ) (w : List ℕ) → rest_of sequences c ≡ never → width sequences (c ∷ w) ≡ 0
+none_starts c w e = width_rest c w never e ∙ sym (never_width w)
+
 -- the first bytes of the rows are below a
 unfoldable pub below : ℕ → List (List Range) → Bool
 below a [] = true

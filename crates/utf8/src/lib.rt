@@ -1,10 +1,10 @@
 // UTF-8 as RFC 3629 has it: where a text stops being UTF-8.
 #![tactic(auto)]
 
-ghost use Rattle.std.specs.Prelude.{◌≡◌, cond, List, ◌∷◌, ℕ, ◌+◌, ◌<◌, ◌≤◌, length, get_or, drop, replicate};
+ghost use Rattle.std.specs.Prelude.{◌≡◌, cond, List, ◌∷◌, ℕ, ◌+◌, ◌<◌, ◌≤◌, length, get_or, drop, replicate, MatchOption};
 ghost use Rattle.token.specs.Regex.{to};
 ghost use Rattle.utf8.specs.Utf8.{tail, sequences, begins, width, ill_formed};
-ghost use Rattle.utf8.specs.Passed.{Passed};
+ghost use Rattle.utf8.specs.Passed.{IsWidth, Passed};
 
 // How much of a text is looked at at once.
 const PART: usize = 256;
@@ -13,21 +13,21 @@ const PART: usize = 256;
 #[derive(Clone, Copy)]
 struct Lead(u8, u8, usize);
 
-// A byte from 128 on that starts no sequence has a range that no byte is in.
-fn lead_of(first: u8) -> Lead
+// What a byte from 128 on asks, if it starts a sequence.
+fn lead_of(first: u8) -> Option<Lead>
     requires { 128 ≤ first }
-    ensures { (result.2 < 3) × ((w : List ℕ) → width sequences (first ∷ w) ≡ cond (begins (to result.0 result.1 ∷ replicate result.2 tail) w) (result.2 + 2) 0) }
+    ensures { MatchOption result ((w : List ℕ) → width sequences (first ∷ w) ≡ 0) (λ lead. (lead.2 < 3) × ((w : List ℕ) → width sequences (first ∷ w) ≡ cond (begins (to lead.0 lead.1 ∷ replicate lead.2 tail) w) (lead.2 + 2) 0)) }
 {
     match first {
-        0xc2..=0xdf => Lead(0x80, 0xbf, 0),
-        0xe0 => Lead(0xa0, 0xbf, 1),
-        0xe1..=0xec => Lead(0x80, 0xbf, 1),
-        0xed => Lead(0x80, 0x9f, 1),
-        0xee..=0xef => Lead(0x80, 0xbf, 1),
-        0xf0 => Lead(0x90, 0xbf, 2),
-        0xf1..=0xf3 => Lead(0x80, 0xbf, 2),
-        0xf4 => Lead(0x80, 0x8f, 2),
-        _ => Lead(0xff, 0x00, 0),
+        0xc2..=0xdf => Some(Lead(0x80, 0xbf, 0)),
+        0xe0 => Some(Lead(0xa0, 0xbf, 1)),
+        0xe1..=0xec => Some(Lead(0x80, 0xbf, 1)),
+        0xed => Some(Lead(0x80, 0x9f, 1)),
+        0xee..=0xef => Some(Lead(0x80, 0xbf, 1)),
+        0xf0 => Some(Lead(0x90, 0xbf, 2)),
+        0xf1..=0xf3 => Some(Lead(0x80, 0xbf, 2)),
+        0xf4 => Some(Lead(0x80, 0x8f, 2)),
+        _ => None,
     }
 }
 
@@ -41,31 +41,21 @@ fn has_tails(text: &[u8], count: usize) -> bool
             .all(|&byte| 0x80 <= byte && byte <= 0xbf)
 }
 
-// How long the sequence at `at` is, 0 if there is none; its first byte is from 128 on.
-fn width_at(text: &[u8], at: usize) -> usize
+// How long the sequence at `at` is, whose first byte is from 128 on; none if it is ill-formed.
+fn width_at(text: &[u8], at: usize) -> Option<usize>
     requires { (at < length text.now) × (128 ≤ get_or text.now at 0) }
-    ensures { result ≡ width sequences (drop at text.now) }
+    ensures { IsWidth (drop at text.now) result }
 {
-    let Lead(low, high, tails) = lead_of(text[at]);
-    let second = at + 1;
-    if text.len() <= second {
-        return 0;
+    let Lead(low, high, tails) = lead_of(text[at])?;
+    let &second = text.get(at + 1)?;
+    if second < low || high < second {
+        return None;
     }
-    let byte = text[second];
-    if byte < low {
-        return 0;
-    }
-    if high < byte {
-        return 0;
-    }
-    if has_tails(&text[second + 1..], tails) {
-        return tails + 2;
-    }
-    0
+    has_tails(&text[at + 2..], tails).then_some(tails + 2)
 }
 
-// The sequences from `from` on that start before `stop`, passed: the offset behind them, or that of an ill-formed one, which is below `stop`.
-fn pass_sequences(text: &[u8], from: usize, stop: usize) -> usize
+// The sequences from `from` on that start before `stop`, passed: the offset behind them, or that of an ill-formed one among them.
+fn pass_sequences(text: &[u8], from: usize, stop: usize) -> Result<usize, usize>
     requires { (from ≤ length text.now) × (stop ≤ length text.now) }
     ensures { Passed text.now from stop result }
 {
@@ -75,14 +65,13 @@ fn pass_sequences(text: &[u8], from: usize, stop: usize) -> usize
         if text[at] < 128 {
             at += 1;
         } else {
-            let n = width_at(text, at);
-            if n == 0 {
-                return at;
-            }
+            let Some(n) = width_at(text, at) else {
+                return Err(at);
+            };
             at += n;
         }
     }
-    at
+    Ok(at)
 }
 
 // The offset of the first ill-formed sequence. A text, or else a part of it, without a byte from 128 on is passed whole.
@@ -96,18 +85,14 @@ pub fn ill_formed(text: &[u8]) -> Option<usize>
     let mut at: usize = 0;
     // a part ends behind its last sequence, so `chunks` would cut it
     while at < text.len() {
-        let mut stop = text.len();
-        if PART < stop - at {
-            stop = at + PART;
-        }
+        let stop = at + PART.min(text.len() - at);
         if text[at..stop].is_ascii() {
             at = stop;
         } else {
-            let behind = pass_sequences(text, at, stop);
-            if behind < stop {
-                return Some(behind);
+            match pass_sequences(text, at, stop) {
+                Ok(behind) => at = behind,
+                Err(ill) => return Some(ill),
             }
-            at = behind;
         }
     }
     None

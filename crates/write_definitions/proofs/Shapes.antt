@@ -10,8 +10,8 @@ use Rattle.ast.specs.Column as Col
 use Rattle.ast.specs.Records.{node_width}
 use Rattle.cursor.specs.declared.Cursor.{Cursor}
 use Rattle.cursor.specs.Onto.{W, ◌⨟◌, comments_out, reached, kind_at, number_at, pass_node, put_out, say_out, spaces_out, then, token_out}
-use Rattle.write_fields.specs.Onto.{annotations_out, assigned_out, field_out, params_out, typed_name_out, value_out}
-use Rattle.write_definitions.specs.Onto.{block_out, body_out, const_out, definition_out, extends_out, function_out, function_tail_out, keyword_out, line_out, member_out, members_from, namespace_out, one_out, oneway_out, throws_out}
+use Rattle.write_fields.specs.Onto.{annotations_out, assigned_out, params_out, typed_name_out, value_out}
+use Rattle.write_definitions.specs.Onto.{block_out, body_out, const_out, definition_out, extends_out, function_out, function_tail_out, keyword_out, line_out, member_out, members_from, namespace_out, oneway_out, throws_out}
 
 -- ---- functions and enum members
 
@@ -62,14 +62,6 @@ unfolding member_out say_out ascii
 member_is text nodes count comments total indent p o = refl
 
 -- ---- definitions
-
-pub one_is : (text nodes : List ℕ) (count : ℕ) (comments : List ℕ) (total indent k : ℕ) (p : Cursor) (o : List ℕ) →
-    one_out text nodes count comments total indent k p o ≡
-    cond (eqb k 11) (function_out text nodes count comments total indent p o)
-    (cond (eqb k 12) (field_out text nodes count comments total indent p o)
-    (member_out text nodes count comments total indent p o))
-unfolding one_out
-one_is text nodes count comments total indent k p o = refl
 
 pub body_is : (text nodes : List ℕ) (count : ℕ) (comments : List ℕ) (total indent k : ℕ) (p : Cursor) (o : List ℕ) →
     body_out text nodes count comments total indent k p o ≡

@@ -1,10 +1,11 @@
 // The print of functions, enum members and definitions: rico's writer/document.rs.
 #![tactic(auto)]
 
-ghost use Rattle.std.specs.Prelude.{◌≡◌, List, ℕ};
+ghost use Rattle.std.specs.Prelude.{◌≡◌, List, ℕ, eqb, ltb};
 ghost use Rattle.ast.specs.KindNumber.{number_of};
+ghost use Rattle.ast.specs.Records.{node_width, room};
 ghost use Rattle.cursor.specs.declared.Cursor.{Cursor};
-ghost use Rattle.cursor.specs.Onto.{◌⨟◌, put_out, say_out, token_out};
+ghost use Rattle.cursor.specs.Onto.{◌⨟◌, kind_at, put_out, say_out, token_out};
 ghost use Rattle.cursor.specs.Writes.{Writes};
 ghost use Rattle.write_fields.specs.Onto.{typed_name_out};
 ghost use Rattle.write_definitions.specs.Onto.{number, throws_out, oneway_out, function_tail_out, function_out, member_out, one_out, members_from, body_out, extends_out, keyword_out, namespace_out, const_out, line_out, block_out, definition_out, document_out};
@@ -74,34 +75,27 @@ fn write_member(w: &mut Writer)
     w.put(b",\n");
 }
 
-// a member, by its kind: function, field, enum member
-fn write_one(w: &mut Writer, kind: Kind)
-    ensures { Writes (λ x. one_out x.text x.nodes x.count x.comments x.total x.indent (number_of kind)) w.old w.new }
+// the members of one kind, each written so
+fn write_members<F: Fn(&mut Writer)>(w: &mut Writer, kind: Kind, write: F)
+    requires { F.IsAlwaysCallable write }
+    ensures { ((s : _) (t : _) → F.post write s tt t → Writes (λ x. one_out x.text x.nodes x.count x.comments x.total x.indent (number_of kind)) s.now t.now) → Writes (λ x. members_from x.text x.nodes x.count x.comments x.total x.indent (number_of kind) x.count) w.old w.new }
 {
-    match kind {
-        Kind::Function => write_function(w),
-        Kind::Field => write_fields::write_field(w),
-        _ => write_member(w),
-    }
-}
-
-fn write_members(w: &mut Writer, kind: Kind)
-    ensures { Writes (λ x. members_from x.text x.nodes x.count x.comments x.total x.indent (number_of kind) x.count) w.old w.new }
-{
-    for _ in 0..w.nodes.len() / NODE_WIDTH {
-        if !w.is(kind) {
-            return;
-        }
-        write_one(w, kind);
-    }
+    w.repeat(
+        w.nodes.len() / NODE_WIDTH,
+        |w: &Writer| -> bool
+            ensures { result ≡ eqb (kind_at w.now.nodes.now (room node_width w.now.nodes.now) w.now.at.node) (number_of kind) }
+        { w.is(kind) },
+        write,
+    );
 }
 
 // ` {`, the members each on its lines, `}`
-fn write_body(w: &mut Writer, kind: Kind)
-    ensures { Writes (λ x. body_out x.text x.nodes x.count x.comments x.total x.indent (number_of kind)) w.old w.new }
+fn write_body<F: Fn(&mut Writer)>(w: &mut Writer, kind: Kind, write: F)
+    requires { F.IsAlwaysCallable write }
+    ensures { ((s : _) (t : _) → F.post write s tt t → Writes (λ x. one_out x.text x.nodes x.count x.comments x.total x.indent (number_of kind)) s.now t.now) → Writes (λ x. body_out x.text x.nodes x.count x.comments x.total x.indent (number_of kind)) w.old w.new }
 {
     w.put(b" {\n");
-    write_members(w, kind);
+    write_members(w, kind, write);
     w.put(b"}");
 }
 
@@ -193,15 +187,15 @@ fn write_block(w: &mut Writer, kind: Option<Kind>)
 {
     w.put_token();
     let Some(kind) = kind else {
-        return write_body(w, Kind::Field);
+        return write_body(w, Kind::Field, write_fields::write_field);
     };
     match kind {
-        Kind::Enum => write_body(w, Kind::EnumMember),
+        Kind::Enum => write_body(w, Kind::EnumMember, write_member),
         Kind::Service => {
             write_extends(w);
-            write_body(w, Kind::Function);
+            write_body(w, Kind::Function, write_function);
         }
-        _ => write_body(w, Kind::Field),
+        _ => write_body(w, Kind::Field, write_fields::write_field),
     }
 }
 
@@ -216,7 +210,7 @@ fn write_definition(w: &mut Writer)
     w.pass_node();
     w.put(keyword(kind));
     // by the number: what is printed is said of those too that no kind has
-    if number < Kind::Enum.number() {
+    if number < u32::from(Kind::Enum) {
         return write_line(w, kind);
     }
     write_block(w, kind);
@@ -229,10 +223,11 @@ pub fn write_document(w: &mut Writer)
     ensures { Writes (λ x. document_out x.text x.nodes x.count x.comments x.total x.indent) w.old w.new }
 {
     let count = w.nodes.len() / NODE_WIDTH;
-    for _ in 0..count {
-        if count <= w.at.node as usize {
-            return;
-        }
-        write_definition(w);
-    }
+    w.repeat(
+        count,
+        |w: &Writer| -> bool
+            ensures { result ≡ ltb w.now.at.node count }
+        { (w.at.node as usize) < count },
+        write_definition,
+    );
 }

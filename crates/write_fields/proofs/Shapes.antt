@@ -1,6 +1,7 @@
 -- What each function of this crate is, as its first call and what follows it, strings as bytes; its tests are those of the code.
 --     ..-is                     a function of the output, one law each; the loops' are in Rounds
 --     no_value, value_unless    has_value
+--     both_is                   two tests, as one
 use mathlib.Core.Path.{◌≡◌, refl, sym, ap, ◌∙◌}
 use mathlib.Core.Bool.{Bool, true, false, not, beq, cond}
 use mathlib.Core.List.{List, [], ◌∷◌}
@@ -206,3 +207,7 @@ is_of_is thrown f = go thrown (ltb f 16) refl
     go true false h = rw (le-leb 16 f (ltb-false f 16 h))
     go false true h = rw (lt-leb 16 f (ltb-true f 16 h))
     go false false h = rw (le-leb 16 f (ltb-false f 16 h))
+
+pub both_is : (a b : Bool) (X R : Reached) → cond a (cond b X R) R ≡ cond (cond a b false) X R
+both_is true b X R = refl
+both_is false b X R = refl

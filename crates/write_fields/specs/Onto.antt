@@ -1,12 +1,13 @@
 -- What each function that writes a type, a value, annotations, a field or parameters does to where the printer stands and to the output. Contracts of this crate
 -- and write_definitions/specs/Onto cite it, and printer/proofs/Meant shows what it means; nothing else has to believe it.
-use Rattle.std.specs.Prelude.{Bool, true, false, cond, List, ℕ, zero, suc, eqb, ltb}
+use Rattle.std.specs.Prelude.{◌≡◌, Bool, true, false, cond, List, ℕ, zero, suc, eqb, ltb}
 use Prim.Native.String.{String}
 use Rattle.token.specs.Regex.{bytes as ascii}
 use Rattle.parser.specs.Definitions.{nesting}
 use Rattle.ast.specs.Column as C
 use Rattle.ast.specs.Kind as K
 use Rattle.ast.specs.Records.{node_width}
+use Rattle.cursor.specs.declared.Cursor.{Cursor}
 use Rattle.cursor.specs.Onto.{reached, W, then, ◌⨟◌, number_at, kind_at, parent_at, pass_node, stay, put_out, say_out, token_out, spaces_out, comments_out, pass_comments, pass_below}
 
 -- ---- types and values
@@ -30,6 +31,11 @@ type_out text nodes count (suc d) p o =
 unfoldable pub comma_out : Bool → W
 comma_out true = stay
 comma_out false = say_out ", "
+
+-- m is what so many turns make: each is the test b, and if it says yes the comma, the step k and the turns left
+pub record Listed (b : Cursor → Bool) (k : W) (m : Bool → ℕ → W) : Type 0 where
+  pub none : (first : Bool) (p : Cursor) (o : List ℕ) → m first 0 p o ≡ reached p o
+  pub more : (first : Bool) (n : ℕ) (p : Cursor) (o : List ℕ) → m first (suc n) p o ≡ cond (b p) (then (comma_out first p o) (k ⨟ m false n)) (reached p o)
 
 -- the children of a node, each written so
 unfoldable pub each_out : List ℕ → ℕ → ℕ → W → Bool → ℕ → W

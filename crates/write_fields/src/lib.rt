@@ -1,12 +1,15 @@
 // The print of types, values, annotations, fields and parameters: rico's writer/types.rs, values.rs and common.rs.
 #![tactic(auto)]
 
-ghost use Rattle.std.specs.Prelude.{◌≡◌, true};
+ghost use Rattle.std.specs.Prelude.{◌≡◌, Bool, true, false, cond, ℕ, eqb};
+ghost use Rattle.ast.specs.Column as C;
+ghost use Rattle.ast.specs.Kind as K;
 ghost use Rattle.ast.specs.Records.{node_width, room};
-ghost use Rattle.cursor.specs.Onto.{W, ◌⨟◌, pass_node, put_out, token_out};
-ghost use Rattle.cursor.specs.Writes.{Source, Writes};
+ghost use Rattle.cursor.specs.Onto.{W, ◌⨟◌, kind_at, number_at, parent_at, pass_node, put_out, token_out};
+ghost use Rattle.cursor.specs.Writes.{Source, source, Writes};
+ghost use Rattle.cursor.specs.declared.Cursor.{Cursor};
 ghost use Rattle.parser.specs.Definitions.{nesting};
-ghost use Rattle.write_fields.specs.Onto.{container_out, map_type_out, type_out, comma_out, each_out, property_out, brackets_out, value_out, annotation_out, annotations_out, id_out, required_out, has_value, assigned_out, typed_name_out, field_head_out, field_out, param_out, is_of, params_out};
+ghost use Rattle.write_fields.specs.Onto.{container_out, map_type_out, type_out, comma_out, each_out, Listed, property_out, brackets_out, value_out, annotation_out, annotations_out, id_out, required_out, has_value, assigned_out, typed_name_out, field_head_out, field_out, param_out, is_of, params_out};
 
 use ast::kind::Kind;
 use ast::{NODE_WIDTH, column, flag};
@@ -65,14 +68,14 @@ fn put_comma(w: &mut Writer, first: bool)
     }
 }
 
-// the children of a node, each written so
-fn write_each<F: Fn(&mut Writer)>(w: &mut Writer, owner: u32, write: F)
-    requires { F.IsAlwaysCallable write }
-    ensures { (m : Source → W) → ((s : _) (t : _) → F.post write s tt t → Writes m s.now t.now) → Writes (λ x. each_out x.nodes x.count owner (m x) true x.count) w.old w.new }
+// as long as the test says yes, each written so; not by `Writer::repeat`, as the first turn puts no comma
+fn write_each<T: Fn(&Writer) -> bool, F: Fn(&mut Writer)>(w: &mut Writer, test: T, write: F)
+    requires callable { T.IsAlwaysCallable test × F.IsAlwaysCallable write }
+    ensures { (b : Source → Cursor → Bool) (k : Source → W) (m : Source → Bool → ℕ → W) → ((x : Source) → Listed (b x) (k x) (m x)) → ((s : _) (r : _) → source s.now ≡ source w.old → T.post test s r → r ≡ b (source s.now) s.now.at) → ((s : _) (t : _) → F.post write s tt t → Writes k s.now t.now) → Writes (λ x. m x true x.count) w.old w.new }
 {
     let mut first = true;
     for _ in 0..w.nodes.len() / NODE_WIDTH {
-        if w.parent() != owner {
+        if !test(w) {
             return;
         }
         put_comma(w, first);
@@ -89,7 +92,13 @@ fn write_brackets<F: Fn(&mut Writer)>(w: &mut Writer, opener: &[u8], closer: &[u
     let owner = w.at.node;
     w.pass_node();
     w.put(opener);
-    write_each(w, owner, write);
+    write_each(
+        w,
+        |w: &Writer| -> bool
+            ensures { result ≡ eqb (parent_at node_width w.now.nodes.now (room node_width w.now.nodes.now) w.now.at.node) owner }
+        { w.parent() == owner },
+        write,
+    );
     w.put(closer);
 }
 
@@ -111,7 +120,7 @@ pub fn write_value(w: &mut Writer, depth: u32)
     }
 }
 
-// [, the elements, ]
+// [, the elements, ]: a writer each for lists and maps, as there is a reader each
 #[cycle(values)]
 fn write_list(w: &mut Writer, depth: u32)
     ensures { Writes (λ x. brackets_out x.nodes x.count "[" "]" (value_out x.text x.nodes x.count depth)) w.old w.new }
@@ -226,7 +235,7 @@ fn write_default(w: &mut Writer, owner: u32)
     }
 }
 
-// the same of an enum member, whose value is one token
+// the same of an enum member, whose value is one token: one step apart, and rico's two places
 pub fn write_initializer(w: &mut Writer, owner: u32)
     ensures { Writes (λ x. assigned_out x.nodes x.count owner (token_out x.text x.nodes)) w.old w.new }
 {
@@ -298,17 +307,15 @@ fn is_of(thrown: bool, flags: u32) -> bool
     thrown == (flag::THROWN <= flags)
 }
 
-// the parameters of a function, or its thrown fields
+// the parameters of a function, or its thrown fields: `thrown` is compared with the flags, and picks no step
 pub fn write_params(w: &mut Writer, thrown: bool)
     ensures { Writes (λ x. params_out x.text x.nodes x.count x.comments x.total thrown) w.old w.new }
 {
-    let mut first = true;
-    for _ in 0..w.nodes.len() / NODE_WIDTH {
-        if !w.is(Kind::Field) || !is_of(thrown, w.number(column::FLAGS)) {
-            return;
-        }
-        put_comma(w, first);
-        write_param(w);
-        first = false;
-    }
+    write_each(
+        w,
+        |w: &Writer| -> bool
+            ensures { result ≡ cond (eqb (kind_at w.now.nodes.now (room node_width w.now.nodes.now) w.now.at.node) K.Field) (is_of thrown (number_at node_width w.now.nodes.now w.now.at.node C.Flags)) false }
+        { w.is(Kind::Field) && is_of(thrown, w.number(column::FLAGS)) },
+        write_param,
+    );
 }

@@ -1,7 +1,18 @@
 -- `enum_numbers::numbers` meets its contract.
-use mathlib.Core.Path.{◌∙◌}
-use Rattle.enum_numbers.proofs.Meant.{accepted_means}
+use mathlib.Core.Path.{sym, ◌∙◌}
+use borrow.Author.Rules.{rules}
+use Rattle.enum_numbers.specs.Whole.{judged}
+use Rattle.enum_numbers.proofs.Meant.{refuses, handed}
 use Rattle.enum_numbers.proofs.numbers.Goals as goal
 
 pub returns-in-Ok : goal.returns-in-Ok
-returns-in-Ok c = c.judge.ensures ∙ accepted_means _ _ _ _ _ _ _ c.read.ensures _ c.in-Ok.is _ _ c.number_members-numbered.ensures.means
+unfolding judged
+returns-in-Ok c = rw c.in-Ok.is at c.try_number.ensures
+
+pub returns-in-Err : goal.returns-in-Err
+returns-in-Err c =
+    let w = c.refuse.ensures in
+    let n = sym w.nodes_lent in
+    let k = sym w.comments_lent in
+    let o = sym w.out_lent in
+    handed _ _ _ _ _ _ _ _ (refuses w) (search rules) (search rules) (search rules) ∙ (rw c.in-Err.is at c.try_number.ensures)

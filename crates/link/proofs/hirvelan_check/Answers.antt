@@ -1,14 +1,8 @@
 -- `link::hirvelan_check` meets its contract.
-use mathlib.Core.Path.{refl}
-use Rattle.lexer.specs.Outcome.{numbers}
-use Rattle.lexer.specs.Refusal.{said_by}
-use Rattle.link.proofs.Answers.{check_answer}
+use mathlib.Core.List.{[]}
+use Rattle.std.proofs.Common.{rules}
+use Rattle.link.proofs.Answers.{told_said, check_answer}
 use Rattle.link.proofs.hirvelan_check.Goals as goal
 
-pub returns-in-Ok : goal.returns-in-Ok
-unfolding said_by numbers
-returns-in-Ok c = check_answer _ _ _ c.check.ensures _ _ _ c.in-Ok.is refl c.fill.ensures
-
-pub returns-in-Err : goal.returns-in-Err
-unfolding said_by numbers
-returns-in-Err c = check_answer _ _ _ c.check.ensures _ _ _ c.in-Err.is refl (rw c.numbers.ensures at c.fill-in-Err.ensures)
+pub returns : goal.returns
+returns c = let d = c.check-checked in check_answer _ d.result d.ensures _ _ _ (told_said (λ _. []) (λ x ns k. search rules) d.result c.map.result c.map.ensures.cases) c.tell.ensures

@@ -1,14 +1,8 @@
 -- `link::hirvelan_enum_numbers` meets its contract.
-use mathlib.Core.Path.{refl}
-use Rattle.lexer.specs.Outcome.{numbers}
-use Rattle.lexer.specs.Refusal.{said_by}
-use Rattle.link.proofs.Answers.{enum_answer}
+use mathlib.Core.List.{[], ◌∷◌}
+use Rattle.std.proofs.Common.{rules}
+use Rattle.link.proofs.Answers.{told_said, enum_answer}
 use Rattle.link.proofs.hirvelan_enum_numbers.Goals as goal
 
-pub returns-in-Ok : goal.returns-in-Ok
-unfolding said_by numbers
-returns-in-Ok c = enum_answer c.numbers.result _ _ _ _ _ c.numbers.ensures _ _ _ c.in-Ok.is refl c.fill.ensures
-
-pub returns-in-Err : goal.returns-in-Err
-unfolding said_by numbers
-returns-in-Err c = enum_answer c.numbers.result _ _ _ _ _ c.numbers.ensures _ _ _ c.in-Err.is refl (rw c.numbers-in-Err.ensures at c.fill-in-Err.ensures)
+pub returns : goal.returns
+returns c = let d = c.numbers-numbered in enum_answer d.result _ _ _ _ d.ensures _ _ _ (told_said (λ x. x ∷ []) (λ x ns k. search rules) d.result c.map.result c.map.ensures.cases) c.tell.ensures

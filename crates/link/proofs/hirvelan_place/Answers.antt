@@ -6,4 +6,4 @@ use Rattle.link.proofs.hirvelan_place.Goals as goal
 
 pub returns : goal.returns
 unfolding three
-returns c = c.fill.ensures ∙ ap (λ (s : Span). laid (three s) c.args.place.now) c.find-found.ensures
+returns c = c.lay.ensures ∙ ap (λ (s : Span). laid (three s) c.args.place.now) c.find-found.ensures

@@ -1,6 +1,7 @@
 -- `move_tables::bad_tenth` meets its contract. The invariant: `Walked`.
+use native.Mathlib.Omega.{arith}
 use Rattle.ast.specs.Records.{node_width, no_parent}
-use Rattle.move_tables.proofs.Ancestors.{holds_less}
+use Rattle.move_tables.proofs.Climbing.{holds_less}
 use Rattle.move_tables.proofs.Endings.{walk_start, walk_passes, walk_on, end_passes, end_up, walk_end}
 use Rattle.move_tables.proofs.Results.{tenth_missing, tenth_found}
 use Rattle.move_tables.proofs.bad_tenth.Goals as goal
@@ -9,19 +10,19 @@ pub loop-n-init : goal.loop-n-init
 unfolding no_parent
 loop-n-init c = walk_start _ c.requires
 
-pub parent-p-requires : goal.parent-p-requires
+pub parent-end-requires : goal.parent-end-requires
 unfolding node_width
-parent-p-requires c = holds_less c.loop-n-test.true c.requires.holds
+parent-end-requires c = (omega arith, holds_less c.loop-n-test.true c.requires.holds)
 
 pub check_past-bad-requires : goal.check_past-bad-requires
 unfolding node_width
-check_past-bad-requires c = rw c.parent-p.ensures (walk_passes c.loop-n-test.true c.loop-n.invariant c.requires.holds)
+check_past-bad-requires c = rw c.parent-end.ensures (walk_passes c.loop-n-test.true c.loop-n.invariant c.requires.holds)
 
 pub loop-n-preserved : goal.loop-n-preserved
 unfolding node_width
 loop-n-preserved c =
     let k = c.loop-n.invariant in
-    walk_on c.loop-n-test.true k _ (rw c.parent-p.ensures at (c.check_past-bad.ensures k.ancestors k.is))
+    walk_on c.loop-n-test.true k _ (rw c.parent-end.ensures at (c.check_past-bad.ensures k.ancestors k.is))
 
 pub check_past-lowest-requires : goal.check_past-lowest-requires
 unfolding no_parent

@@ -6,4 +6,4 @@ use Rattle.move_tables.proofs.Endings.{Walked}
 use Rattle.move_tables.proofs.bad_tenth.Given as goal
 
 abbrev pub invariant-loop-n : goal.invariant-loop-n
-invariant-loop-n l = Walked node_width l.table (lower_bad l.table) l.count l.n l.at l.bad (walk (lower_bad l.table) 0 (no_parent ∷ []) (parents_from node_width l.table l.count 0) no_parent)
+invariant-loop-n l = Walked node_width l.table.0.now (lower_bad l.table.0.now) l.count l.n l.at l.bad (walk (lower_bad l.table.0.now) 0 (no_parent ∷ []) (parents_from node_width l.table.0.now l.count 0) no_parent)

@@ -1,25 +1,23 @@
 -- `move_tables::check_past` meets its contract. The invariant: `Ending`.
+use mathlib.Core.Path.{◌∙◌}
 use Rattle.ast.specs.Records.{node_width}
-use Rattle.move_tables.proofs.Endings.{ending_start, ending_holds, ending_less, ending_on, ending_done}
+use Rattle.move_tables.specs.Ancestors.{left}
+use Rattle.move_tables.proofs.Climbing.{holds_less}
+use Rattle.move_tables.proofs.Endings.{ending_start, ending_below, ending_on, ending_done, ending_is}
 use Rattle.move_tables.proofs.check_past.Goals as goal
 
 pub loop-a-init : goal.loop-a-init
-loop-a-init c = ending_start _ c.requires
+unfolding left node_width
+loop-a-init c = rw c.into_iter-a-iterator.ensures.into_iter_gives ((c.args.n, c.requires), tt, ending_start _ c.requires _)
 
 pub lower_bad-lowest-requires : goal.lower_bad-lowest-requires
-lower_bad-lowest-requires c = ending_holds c.requires.holds.few c.loop-a-test.true c.loop-a.invariant c.requires.holds
-
-pub parent-a-requires : goal.parent-a-requires
-unfolding node_width
-parent-a-requires c = ending_holds c.requires.holds.few c.loop-a-test.true c.loop-a.invariant c.requires.holds
-
-pub loop-a-smaller : goal.loop-a-smaller
-unfolding node_width
-loop-a-smaller c = rw c.parent-a.ensures (ending_less c.requires.holds.few c.loop-a-test.true c.loop-a.invariant)
+lower_bad-lowest-requires c = holds_less (ending_below c.in-Some.ensures.steps c.loop-a.invariant.2) c.requires.holds
 
 pub loop-a-preserved : goal.loop-a-preserved
-unfolding node_width
-loop-a-preserved c = rw (c.parent-a.ensures, c.lower_bad-lowest.ensures) (ending_on c.requires.holds.few c.loop-a-test.true c.loop-a.invariant)
+loop-a-preserved c =
+    let goes = c.in-Some.ensures.goes.on tt in
+    (goes.0, goes.1, rw c.lower_bad-lowest.ensures (ending_on c.in-Some.ensures.steps c.loop-a.invariant.2))
 
 pub returns : goal.returns
-returns c = λ ancestors is. ending_done c.requires.holds.few c.loop-a-test.false c.loop-a.invariant ancestors is
+unfolding left node_width
+returns c = λ ancestors is. ending_done c.in-None.ensures.steps.0 c.loop-a.invariant.2 ∙ ending_is _ c.requires _ ancestors is

@@ -3,13 +3,13 @@ use Rattle.move_tables.proofs.Copying.{copy_start, copy_carries, copy_on, copy_d
 use Rattle.move_tables.proofs.copy.Goals as goal
 
 pub loop-n-init : goal.loop-n-init
-loop-n-init c = copy_start _
+loop-n-init g c = copy_start _
 
 pub copy_record-requires : goal.copy_record-requires
-copy_record-requires c = copy_carries c.requires c.loop-n-test.true c.loop-n.invariant
+copy_record-requires g c = copy_carries c.requires c.loop-n-test.true c.loop-n.invariant
 
 pub loop-n-preserved : goal.loop-n-preserved
-loop-n-preserved c = copy_on c.requires c.loop-n-test.true c.loop-n.invariant c.copy_record.ensures
+loop-n-preserved g c = copy_on c.requires c.loop-n-test.true c.loop-n.invariant c.copy_record.ensures
 
 pub returns : goal.returns
-returns c = copy_done c.loop-n-test.false c.loop-n.invariant
+returns g c = copy_done c.loop-n-test.false c.loop-n.invariant

@@ -3,4 +3,4 @@ use Rattle.move_tables.specs.Walk.{Copied}
 use Rattle.move_tables.proofs.copy.Given as goal
 
 abbrev pub invariant-loop-n : goal.invariant-loop-n
-invariant-loop-n l = Copied l.table l.old l.new l.n l.initial.out l.out
+invariant-loop-n g l = Copied l.table.0.now g.row.OLD g.row.NEW l.n l.initial.out l.out

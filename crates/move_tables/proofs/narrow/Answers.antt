@@ -22,7 +22,7 @@ returns-in-Some c = c.refuse.ensures ∙ narrow_off _ _ c.in_ok-records.ensures 
 
 pub lay-requires : goal.lay-requires
 unfolding comment_width node_width
-lay-requires c = wholes _ _ c.in_ok-records.ensures.1 c.in_ok-records.ensures.0 (omega arith) (omega arith) (omega arith)
+lay-requires c = (omega arith, wholes _ _ c.in_ok-records.ensures.1 c.in_ok-records.ensures.0 (omega arith) (omega arith) (omega arith))
 
 pub returns : goal.returns
 unfolding comment_width node_width

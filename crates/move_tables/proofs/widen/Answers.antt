@@ -14,7 +14,7 @@ returns-in_err-records c =
 
 pub lay-requires : goal.lay-requires
 unfolding comment_width node_width
-lay-requires c = wholes _ _ c.in_ok-records.ensures.1 c.in_ok-records.ensures.0 (omega arith) (omega arith) (omega arith)
+lay-requires c = (omega arith, wholes _ _ c.in_ok-records.ensures.1 c.in_ok-records.ensures.0 (omega arith) (omega arith) (omega arith))
 
 pub returns-in_err-lay : goal.returns-in_err-lay
 unfolding comment_width node_width

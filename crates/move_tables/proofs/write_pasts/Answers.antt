@@ -3,7 +3,7 @@ use mathlib.Core.Path.{refl, ap, ◌∙◌}
 use native.Mathlib.Omega.{arith}
 use lib.ListN.{length}
 use Rattle.ast.specs.Records.{comment_width, node_width, no_parent}
-use Rattle.move_tables.proofs.Ancestors.{holds_less}
+use Rattle.move_tables.proofs.Climbing.{holds_less}
 use Rattle.move_tables.proofs.Endings.{walk_start, walk_passes, walk_on, end_passes, end_up, walk_end, ends_length}
 use Rattle.move_tables.proofs.write_pasts.Goals as goal
 
@@ -11,19 +11,19 @@ pub loop-n-init : goal.loop-n-init
 unfolding no_parent
 loop-n-init c = (refl, walk_start _ c.requires.0)
 
-pub parent-p-requires : goal.parent-p-requires
+pub parent-end-requires : goal.parent-end-requires
 unfolding comment_width
-parent-p-requires c = holds_less c.loop-n-test.true c.requires.0.holds
+parent-end-requires c = (omega arith, holds_less c.loop-n-test.true c.requires.0.holds)
 
 pub write_past-requires : goal.write_past-requires
 unfolding comment_width node_width
-write_past-requires c = (rw c.parent-p.ensures (walk_passes c.loop-n-test.true c.loop-n.invariant.1 c.requires.0.holds), omega (arith, c.requires.1, c.loop-n.invariant.0, c.loop-n-test.true))
+write_past-requires c = (rw c.parent-end.ensures (walk_passes c.loop-n-test.true c.loop-n.invariant.1 c.requires.0.holds), omega (arith, c.requires.1, c.loop-n.invariant.0, c.loop-n-test.true))
 
 pub loop-n-preserved : goal.loop-n-preserved
 unfolding comment_width
 loop-n-preserved c =
     let k = c.loop-n.invariant.1 in
-    (ap length (c.write_past.ensures k.ancestors k.is) ∙ ends_length _ _ k.ancestors _ ∙ c.loop-n.invariant.0, walk_on c.loop-n-test.true k _ (rw c.parent-p.ensures at (c.write_past.ensures k.ancestors k.is)))
+    (ap length (c.write_past.ensures k.ancestors k.is) ∙ ends_length _ _ k.ancestors _ ∙ c.loop-n.invariant.0, walk_on c.loop-n-test.true k _ (rw c.parent-end.ensures at (c.write_past.ensures k.ancestors k.is)))
 
 pub write_past-requires-2 : goal.write_past-requires-2
 unfolding no_parent node_width

@@ -9,4 +9,4 @@ use Rattle.move_tables.proofs.Endings.{Walked}
 use Rattle.move_tables.proofs.write_pasts.Given as goal
 
 abbrev pub invariant-loop-n : goal.invariant-loop-n
-invariant-loop-n l = (length l.out ≡ length l.initial.out) × (Walked narrow_width l.table writes l.count l.n l.at l.out (walk writes 0 (no_parent ∷ []) (parents_from narrow_width l.table l.count 0) l.initial.out))
+invariant-loop-n l = (length l.out ≡ length l.initial.out) × (Walked narrow_width l.table.0.now writes l.count l.n l.at l.out (walk writes 0 (no_parent ∷ []) (parents_from narrow_width l.table.0.now l.count 0) l.initial.out))

@@ -12,4 +12,4 @@ returns-in_err-define c = off (c.define.ensures (λ (q : ℕ) (x : Source). cons
 
 pub returns : goal.returns
 unfolding const_in
-returns c = last c.skip_comments.ensures (on (c.define.ensures (λ (q : ℕ) (x : Source). constant_in x.text x.base q) (λ s n r t h. h)) c.in_ok-define.was _ (begins refl))
+returns c = last c.skip_trivia.ensures (on (c.define.ensures (λ (q : ℕ) (x : Source). constant_in x.text x.base q) (λ s n r t h. h)) c.in_ok-define.was _ (begins refl))

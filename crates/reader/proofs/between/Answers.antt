@@ -6,4 +6,4 @@ use Rattle.reader.proofs.between.Goals as goal
 
 pub returns : goal.returns
 unfolding between_in
-returns c = last c.skip-2.ensures (kept c.skip_comments.ensures _ (kept c.skip.ensures _ (begins refl)))
+returns c = last c.skip_separators-2.ensures (kept c.skip_comments.ensures _ (kept c.skip_separators.ensures _ (begins refl)))

@@ -15,7 +15,7 @@ returns-in_err-parse_document c =
     let lent = sym w.lent in
     let wide = sym w.wide in
     handed _ _ _ _ _ _ (refused_with _ _ _ _ _ _ _ c.in_err-parse_document.was c.from_residual.ensures w.goes) (search rules) (search rules)
-    ∙ ap (λ (st : State). document_in a.text.now (advanced a.text.now st) a.nodes.now a.comments.now) c.unread.ensures
+    ∙ ap (λ (st : State). document_in a.short.text.now (advanced a.short.text.now st) a.nodes.now a.comments.now) c.unread.ensures
 
 pub returns : goal.returns
 unfolding beginning
@@ -25,4 +25,4 @@ returns c =
     let lent = sym w.lent in
     let wide = sym w.wide in
     handed _ _ _ _ _ _ (with_state _ _ _ _ _ _ c.in_ok-parse_document.was w.goes) (search rules) (search rules)
-    ∙ ap (λ (st : State). document_in a.text.now (advanced a.text.now st) a.nodes.now a.comments.now) c.unread.ensures
+    ∙ ap (λ (st : State). document_in a.short.text.now (advanced a.short.text.now st) a.nodes.now a.comments.now) c.unread.ensures

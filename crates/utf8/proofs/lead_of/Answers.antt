@@ -5,7 +5,7 @@ use Prim.Native.Nat.{ℕ, ◌≤◌}
 use native.Mathlib.Omega.{arith}
 use borrow.Author.Tests.{le-leb, lt-leb}
 use Rattle.utf8.specs.Utf8.{tail, sequences}
-use Rattle.utf8.proofs.Utf8Laws.{never, rest_of, below, rest_from, width_rest}
+use Rattle.utf8.proofs.Utf8Laws.{never, rest_of, below, rest_from, width_rest, none_starts}
 use Rattle.utf8.proofs.lead_of.Goals as goal
 
 -- the arms that are ranges
@@ -68,9 +68,7 @@ unfolding tail
 returns-in-241-to-243 c = (omega arith, λ w. width_rest _ w _ (row-f1 _ (omega arith) (omega arith)))
 
 pub returns-in_default : goal.returns-in_default
-unfolding never
-returns-in_default c = (omega arith, λ w. width_rest _ w _ (row-80 _ (omega arith) (omega arith)))
+returns-in_default c w = none_starts _ w (row-80 _ (omega arith) (omega arith))
 
 pub returns-in_default-2 : goal.returns-in_default-2
-unfolding never
-returns-in_default-2 c = (omega arith, λ w. width_rest _ w _ (row-f5 _ (omega arith)))
+returns-in_default-2 c w = none_starts _ w (row-f5 _ (omega arith))

@@ -4,15 +4,15 @@ use Prim.Native.Nat.{◌≤◌, ◌+◌}
 use native.Mathlib.Omega.{arith}
 use borrow.Author.Rules.{rules}
 use lib.ListN.{length}
-use Rattle.utf8.proofs.Utf8Laws.{ascii_step, ill_step, width_fits}
+use Rattle.utf8.proofs.Utf8Laws.{ascii_step, ill_step, ill_here, width_fits}
 use Rattle.utf8.proofs.pass_sequences.Goals as goal
-use Rattle.utf8.proofs.pass_sequences.Goals.{After-width_at-n}
+use Rattle.utf8.proofs.pass_sequences.Goals.{In-Some}
 
 -- the sequence at `at` fits
-fits : (c : After-width_at-n)
-    → c.loop-at.at + c.width_at-n.result ≤ length c.args.text.now
+fits : (c : In-Some)
+    → c.loop-at.at + c.in-Some.n ≤ length c.args.text.now
 fits c =
-    width_fits _ c.loop-at.at _ (omega arith) c.width_at-n.ensures
+    width_fits _ c.loop-at.at _ (omega arith) (sym c.in-Some.ensures.1)
 
 pub loop-at-init : goal.loop-at-init
 loop-at-init c = (search rules, refl)
@@ -21,19 +21,19 @@ pub loop-at-preserved-then-text-at-lt128 : goal.loop-at-preserved-then-text-at-l
 loop-at-preserved-then-text-at-lt128 c =
     (search rules, c.loop-at.invariant.1 ∙ ascii_step _ c.loop-at.at (omega arith) c.if-text-at-lt128.true)
 
-pub returns-then-n-eq0 : goal.returns-then-n-eq0
-returns-then-n-eq0 c =
-    record { within = c.loop-at.invariant.0; onward = c.loop-at.invariant.1; ill = λ h. sym c.if-n-eq0.true ∙ c.width_at-n.ensures }
+pub returns-in_default : goal.returns-in_default
+returns-in_default c =
+    (c.loop-at-test.true, c.loop-at.invariant.1 ∙ ill_here _ c.loop-at.at (omega arith) (sym c.in_default.ensures))
 
 pub overflow_add-at-else-text-at-lt128 : goal.overflow_add-at-else-text-at-lt128
-overflow_add-at-else-text-at-lt128 c = omega (arith, fits (goal.at.overflow_add-at-else-text-at-lt128 c).After-width_at-n)
+overflow_add-at-else-text-at-lt128 c = omega (arith, fits (goal.at.overflow_add-at-else-text-at-lt128 c).In-Some)
 
 pub loop-at-smaller : goal.loop-at-smaller
-loop-at-smaller c = omega (arith, fits (goal.at.loop-at-smaller c).After-width_at-n)
+loop-at-smaller c = omega (arith, fits c, c.in-Some.ensures.0)
 
 pub loop-at-preserved : goal.loop-at-preserved
 loop-at-preserved c =
-    (fits (goal.at.loop-at-preserved c).After-width_at-n, c.loop-at.invariant.1 ∙ ill_step _ c.loop-at.at c.width_at-n.result (omega arith) c.width_at-n.ensures c.if-n-eq0.false)
+    (fits c, c.loop-at.invariant.1 ∙ ill_step _ c.loop-at.at c.in-Some.n (omega arith) (sym c.in-Some.ensures.1) (λ e. omega (arith, c.in-Some.ensures.0)))
 
 pub returns : goal.returns
-returns c = record { within = c.loop-at.invariant.0; onward = c.loop-at.invariant.1; ill = λ h. absurd (omega arith) }
+returns c = record { behind = c.loop-at-test.false; within = c.loop-at.invariant.0; onward = c.loop-at.invariant.1 }

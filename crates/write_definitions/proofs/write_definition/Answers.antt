@@ -13,8 +13,8 @@ use Rattle.write_definitions.proofs.KindNumbers.{keyword_read, line_read, block_
 use Rattle.write_definitions.proofs.Shapes.{definition_is}
 use Rattle.write_definitions.proofs.write_definition.Goals as goal
 
-pub returns-then-number : goal.returns-then-number
-returns-then-number c =
+pub returns-then-number-from : goal.returns-then-number-from
+returns-then-number-from c =
     let n = c.kind_number-number.result in
     let e : kind_of n ≡ c.kind-kind.result = ap kind_of c.kind_number-number.ensures ∙ sym c.kind-kind.ensures in
     let x = source c.args.w.now in
@@ -22,7 +22,7 @@ returns-then-number c =
     let word : keyword_out n t.at t.out.now ≡ put_out c.keyword.result.now t.at t.out.now
     = sym (keyword_read n t.at t.out.now) ∙ ap (λ (k : Option Kind). keyword_out (number k) t.at t.out.now) e ∙ c.keyword.ensures t.at t.out.now in
     let u = c.put.new.self in
-    let l : n < 6 = omega (arith, c.number.ensures, c.if-number.true) in
+    let l : n < 6 = omega (arith, c.from.ensures, c.if-number-from.true) in
     last c.write_line.ensures
     (so (line_out x.text x.nodes x.count (number c.kind-kind.result) u.at u.out.now)
     (sym (line_read _ _ _ n _ _ l) ∙ ap (λ (k : Option Kind). line_out x.text x.nodes x.count (number k) u.at u.out.now) e)
@@ -39,7 +39,7 @@ returns c =
     let word : keyword_out n t.at t.out.now ≡ put_out c.keyword.result.now t.at t.out.now
     = sym (keyword_read n t.at t.out.now) ∙ ap (λ (k : Option Kind). keyword_out (number k) t.at t.out.now) e ∙ c.keyword.ensures t.at t.out.now in
     let u = c.put.new.self in
-    let l : 6 ≤ n = omega (arith, c.number.ensures, c.if-number.false) in
+    let l : 6 ≤ n = omega (arith, c.from.ensures, c.if-number-from.false) in
     last c.put-2.ensures
     (kept c.write_annotations.ensures _
     (kept c.write_block.ensures _

@@ -1,23 +1,18 @@
--- `write_definitions::write_document` meets its contract. The invariant: the turns left, from here, make what all of them make.
-use mathlib.Core.Path.{refl}
+-- `write_definitions::write_document` meets its contract.
+use mathlib.Core.Path.{refl, sym, ap, ◌∙◌}
+use lib.Dec.{ltb}
 use Rattle.ast.specs.Records.{node_width, room}
-use Rattle.cursor.proofs.Chain.{counted, turn, over, kept, ends, less, more}
-use Rattle.write_definitions.specs.Onto.{document_from, document_out}
+use Rattle.cursor.specs.Writes.{Source}
+use Rattle.cursor.proofs.Chain.{begins, last}
+use Rattle.write_definitions.specs.Onto.{definition_out, document_from, document_out}
 use Rattle.write_definitions.proofs.write_document.Goals as goal
 
-pub loop-init : goal.loop-init
-unfolding document_out room node_width
-loop-init c = counted (document_from _ _ _ _ _ _) _ _ refl refl
-
-pub returns-then-count-w : goal.returns-then-count-w
-unfolding document_from room node_width
-returns-then-count-w c = ends (more _ _ _ _ c.if-count-w.true (turn (document_from _ _ _ _ _ _) _ _ c.loop-test.true c.loop.invariant))
-
-pub loop-preserved : goal.loop-preserved
-unfolding document_from room node_width
-loop-preserved c =
-    kept c.write_definition.ensures _ (less _ _ _ _ c.if-count-w.false (turn (document_from _ _ _ _ _ _) _ _ c.loop-test.true c.loop.invariant))
-
 pub returns : goal.returns
-unfolding document_from
-returns c = ends (over (document_from _ _ _ _ _ _) _ _ c.loop-test.false c.loop.invariant)
+unfolding document_out document_from room node_width
+returns c =
+    last
+    (c.repeat.ensures (λ x p. ltb p.node x.count) (λ x. definition_out x.text x.nodes x.count x.comments x.total x.indent)
+    (λ x. document_from x.text x.nodes x.count x.comments x.total x.indent)
+    (λ x. record { none = λ p o. refl; more = λ n p o. refl })
+    (λ s r e h. h ∙ ap (λ (x : Source). ltb s.now.at.node x.count) (sym e)) (λ s t h. h))
+    (begins refl)

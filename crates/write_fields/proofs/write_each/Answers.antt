@@ -1,29 +1,32 @@
 -- `write_fields::write_each` meets its contract.
 use mathlib.Core.Path.{refl}
+use mathlib.Core.Bool.{true}
 use Rattle.ast.specs.Records.{node_width, room}
-use Rattle.cursor.proofs.Chain.{counted, turn, over, kept, ends, yes, no, parented}
-use Rattle.write_fields.specs.Onto.{each_out}
+use Rattle.cursor.specs.Writes.{source}
+use Rattle.cursor.proofs.Chain.{counted, turn, over, so, kept, ends, when, unless, tested}
 use Rattle.write_fields.proofs.write_each.Goals as goal
 
 pub loop-init : goal.loop-init
 unfolding room node_width
-loop-init g c = (c.requires, λ m f. counted (each_out _ _ _ _ _) _ _ refl refl)
+loop-init g c = λ b k m r f h. counted (m (source c.args.w.now) true) _ _ refl refl
 
-pub returns-then-parent-owner : goal.returns-then-parent-owner
-unfolding each_out
-returns-then-parent-owner g c =
-    λ m f. let v = c.loop.invariant.1 m f in
-    ends (no _ _ _ _ _ (parented v c.parent.ensures) c.if-parent-owner.true (turn (each_out _ _ _ _ _) _ _ c.loop-test.true v))
+pub returns-then-not-test : goal.returns-then-not-test
+unfolding room node_width
+returns-then-not-test g c =
+    λ b k m r f h. let x = source c.args.w.now in
+    let v = c.loop.invariant b k m r f h in
+    ends
+    (unless _ _ _ _ (tested v b (f _ _ v.same c.test.ensures)) c.if-not-test.true (so _ ((r x).more _ _ _ _) (turn (m x _) _ _ c.loop-test.true v)))
 
 pub loop-preserved : goal.loop-preserved
-unfolding each_out
-loop-preserved g c = (
-  c.loop.invariant.0,
-  λ m f. let v = c.loop.invariant.1 m f in
-      kept (f _ _ c.write.ensures) _
-      (kept c.put_comma.ensures _ (yes _ _ _ _ _ (parented v c.parent.ensures) c.if-parent-owner.false (turn (each_out _ _ _ _ _) _ _ c.loop-test.true v))),
-)
+unfolding room node_width
+loop-preserved g c =
+    λ b k m r f h. let x = source c.args.w.now in
+    let v = c.loop.invariant b k m r f h in
+    kept (h _ _ c.write.ensures) _
+    (kept c.put_comma.ensures _
+    (when _ _ _ _ (tested v b (f _ _ v.same c.test.ensures)) c.if-not-test.false (so _ ((r x).more _ _ _ _) (turn (m x _) _ _ c.loop-test.true v))))
 
 pub returns : goal.returns
-unfolding each_out
-returns g c = λ m f. ends (over (each_out _ _ _ _ _) _ _ c.loop-test.false (c.loop.invariant.1 m f))
+unfolding room node_width
+returns g c = λ b k m r f h. let x = source c.args.w.now in ends (so _ ((r x).none _ _ _) (over (m x _) _ _ c.loop-test.false (c.loop.invariant b k m r f h)))

@@ -1,36 +1,29 @@
--- `write_fields::write_params` meets its contract. The invariant: the turns left, from here, make what all of them make.
-use mathlib.Core.Path.{refl, ap, ◌∙◌}
-use Rattle.ast.specs.Records.{node_width, room}
-use Rattle.cursor.proofs.Chain.{counted, turn, over, kept, ends, when, unless, kinded, numbered}
-use Rattle.write_fields.specs.Onto.{is_of, params_from, params_out}
-use Rattle.write_fields.proofs.write_params.Goals.{then-not-is-via-then-not-is, then-not-is-via-else-not-is+then-not-is_of}
+-- `write_fields::write_params` meets its contract.
+use mathlib.Core.Path.{refl}
+use mathlib.Core.Bool.{cond, false}
+use lib.Dec.{eqb}
+use Rattle.ast.specs.Column as C
+use Rattle.ast.specs.Kind as K
+use Rattle.ast.specs.Records.{node_width}
+use Rattle.cursor.specs.Onto.{◌⨟◌, kind_at, number_at, reached}
+use Rattle.cursor.proofs.Chain.{begins, last}
+use Rattle.write_fields.specs.Onto.{comma_out, is_of, param_out, params_from, params_out}
+use Rattle.write_fields.proofs.Shapes.{both_is}
 use Rattle.write_fields.proofs.write_params.Goals as goal
 
-pub loop-init : goal.loop-init
-unfolding params_out room node_width
-loop-init c = counted (params_from _ _ _ _ _ _ _) _ _ refl refl
-
-pub returns-then-not-is : goal.returns-then-not-is
-unfolding params_from
-returns-then-not-is c =
-    let v = c.loop.invariant in
-    let here = turn (params_from _ _ _ _ _ _ _) _ _ c.loop-test.true v in
-    elim c.then-not-is.branch [
-      | then-not-is-via-then-not-is w ↦ ends (unless _ _ _ _ (kinded v _ c.is.ensures) w.if-not-is.true here)
-      | then-not-is-via-else-not-is+then-not-is_of w ↦
-          ends
-          (unless _ _ _ _ (w.is_of.ensures ∙ ap (is_of _) (numbered v _ w.number.ensures)) w.if-not-is_of.true (when _ _ _ _ (kinded v _ c.is.ensures) w.if-not-is.false here))
-    ]
-
-pub loop-preserved : goal.loop-preserved
-unfolding params_from
-loop-preserved c =
-    let v = c.loop.invariant in
-    kept c.write_param.ensures _
-    (kept c.put_comma.ensures _
-    (when _ _ _ _ (c.is_of.ensures ∙ ap (is_of _) (numbered v _ c.number.ensures)) c.if-not-is_of.false
-    (when _ _ _ _ (kinded v _ c.is.ensures) c.if-not-is.false (turn (params_from _ _ _ _ _ _ _) _ _ c.loop-test.true v))))
-
 pub returns : goal.returns
-unfolding params_from
-returns c = ends (over (params_from _ _ _ _ _ _ _) _ _ c.loop-test.false c.loop.invariant)
+unfolding params_out params_from
+returns c =
+    let a = c.args.thrown in
+    last
+    (c.write_each.ensures (λ x p. cond (eqb (kind_at x.nodes x.count p.node) K.Field) (is_of a (number_at node_width x.nodes p.node C.Flags)) false)
+    (λ x. param_out x.text x.nodes x.count x.comments x.total)
+    (λ x. params_from x.text x.nodes x.count x.comments x.total a)
+    (λ x. record {
+      none = λ first p o. refl;
+      more = λ first n p o.
+          both_is (eqb (kind_at x.nodes x.count p.node) K.Field) (is_of a (number_at node_width x.nodes p.node C.Flags))
+          ((comma_out first ⨟ (param_out x.text x.nodes x.count x.comments x.total ⨟ params_from x.text x.nodes x.count x.comments x.total a false n)) p o) (reached p o);
+    })
+    (λ s r e h. h) (λ s t h. h))
+    (begins refl)

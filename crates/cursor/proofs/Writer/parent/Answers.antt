@@ -1,12 +1,10 @@
 -- `Writer::parent` meets its contract.
-use borrow.Author.Rules.{rules}
+use mathlib.Core.Path.{◌∙◌}
+use native.Mathlib.Omega.{arith}
 use Rattle.ast.specs.Records.{node_width}
+use Rattle.cursor.proofs.Bytes.{parent_there}
 use Rattle.cursor.proofs.Writer.parent.Goals as goal
-
-pub parent_at-requires : goal.parent_at-requires
-unfolding node_width
-parent_at-requires c = search rules
 
 pub returns : goal.returns
 unfolding node_width
-returns c = c.parent_at.ensures
+returns c = c.parent.ensures ∙ parent_there node_width _ _ (omega arith)

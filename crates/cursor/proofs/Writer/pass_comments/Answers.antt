@@ -1,26 +1,17 @@
--- `Writer::pass_comments` meets its contract. The invariant: the turns left, from here, lead where all of them lead.
+-- `Writer::pass_comments` meets its contract.
 use mathlib.Core.Path.{refl}
+use lib.Dec.{eqb}
 use Rattle.ast.specs.Records.{comment_width, room}
-use Rattle.cursor.specs.Onto.{pass_comments_from, pass_comments}
-use Rattle.cursor.proofs.Chain.{counted, turn, over, kept, ends, yes, no, owned}
+use Rattle.cursor.specs.Onto.{parent_at, pass_comment, pass_comments_from, pass_comments}
+use Rattle.cursor.proofs.Chain.{begins, last}
 use Rattle.cursor.proofs.Writer.pass_comments.Goals as goal
 
-pub loop-init : goal.loop-init
-unfolding pass_comments room comment_width
-loop-init c = counted (pass_comments_from _ _ _) _ _ refl refl
-
-pub returns-then-owner : goal.returns-then-owner
-unfolding pass_comments_from
-returns-then-owner c =
-    let v = c.loop.invariant in
-    ends (no _ _ _ _ _ (owned v c.owner.ensures) c.if-owner.true (turn (pass_comments_from _ _ _) _ _ c.loop-test.true v))
-
-pub loop-preserved : goal.loop-preserved
-unfolding pass_comments_from
-loop-preserved c =
-    let v = c.loop.invariant in
-    kept c.pass_comment.ensures _ (yes _ _ _ _ _ (owned v c.owner.ensures) c.if-owner.false (turn (pass_comments_from _ _ _) _ _ c.loop-test.true v))
-
 pub returns : goal.returns
-unfolding pass_comments_from
-returns c = ends (over (pass_comments_from _ _ _) _ _ c.loop-test.false c.loop.invariant)
+unfolding pass_comments pass_comments_from room comment_width
+returns c =
+    let a = c.args.self.now.at.node in
+    last
+    (c.repeat.ensures (λ x p. eqb (parent_at comment_width x.comments x.total p.comment) a) (λ x. pass_comment) (λ x. pass_comments_from x.comments x.total a)
+    (λ x. record { none = λ p o. refl; more = λ n p o. refl })
+    (λ s r e h. h) (λ s t h. h))
+    (begins refl)

@@ -1,26 +1,19 @@
--- `Writer::put_comments` meets its contract. The invariant: the turns left, from here, make what all of them make.
+-- `Writer::put_comments` meets its contract.
 use mathlib.Core.Path.{refl}
+use lib.Dec.{eqb}
 use Rattle.ast.specs.Records.{comment_width, room}
-use Rattle.cursor.specs.Onto.{comments_from, comments_out}
-use Rattle.cursor.proofs.Chain.{counted, turn, over, kept, ends, yes, no, owned}
+use Rattle.cursor.specs.Onto.{parent_at, comment_out, comments_from, comments_out}
+use Rattle.cursor.proofs.Chain.{begins, last}
 use Rattle.cursor.proofs.Writer.put_comments.Goals as goal
 
-pub loop-init : goal.loop-init
-unfolding comments_out room comment_width
-loop-init c = counted (comments_from _ _ _ _ _) _ _ refl refl
-
-pub returns-then-owner : goal.returns-then-owner
-unfolding comments_from
-returns-then-owner c =
-    let v = c.loop.invariant in
-    ends (no _ _ _ _ _ (owned v c.owner.ensures) c.if-owner.true (turn (comments_from _ _ _ _ _) _ _ c.loop-test.true v))
-
-pub loop-preserved : goal.loop-preserved
-unfolding comments_from
-loop-preserved c =
-    let v = c.loop.invariant in
-    kept c.put_comment.ensures _ (yes _ _ _ _ _ (owned v c.owner.ensures) c.if-owner.false (turn (comments_from _ _ _ _ _) _ _ c.loop-test.true v))
-
 pub returns : goal.returns
-unfolding comments_from
-returns c = ends (over (comments_from _ _ _ _ _) _ _ c.loop-test.false c.loop.invariant)
+unfolding comments_out comments_from room comment_width
+returns c =
+    let a = c.args.self.now.at.node in
+    let i = c.args.indent in
+    last
+    (c.repeat.ensures (λ x p. eqb (parent_at comment_width x.comments x.total p.comment) a) (λ x. comment_out x.text x.comments i)
+    (λ x. comments_from x.text x.comments x.total a i)
+    (λ x. record { none = λ p o. refl; more = λ n p o. refl })
+    (λ s r e h. h) (λ s t h. h))
+    (begins refl)

@@ -6,4 +6,4 @@ use Rattle.parse_fields.proofs.fields.skip_member.Goals as goal
 
 pub returns : goal.returns
 unfolding skip_member_in
-returns c = last c.skip_comments.ensures (kept c.skip.ensures _ (begins refl))
+returns c = last c.skip_comments.ensures (kept c.skip_separators.ensures _ (begins refl))

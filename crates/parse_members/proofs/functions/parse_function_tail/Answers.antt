@@ -10,4 +10,4 @@ returns-in_err-parse_throws c = off c.parse_throws.ensures c.in_err-parse_throws
 
 pub returns : goal.returns
 unfolding function_tail_in
-returns c = last c.parse_annotations.ensures (kept c.skip_comments.ensures _ (on c.parse_throws.ensures c.in_ok-parse_throws.was _ (begins refl)))
+returns c = last c.parse_annotations.ensures (kept c.skip_trivia.ensures _ (on c.parse_throws.ensures c.in_ok-parse_throws.was _ (begins refl)))

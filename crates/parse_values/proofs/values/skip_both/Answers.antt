@@ -6,4 +6,4 @@ use Rattle.parse_values.proofs.values.skip_both.Goals as goal
 
 pub returns : goal.returns
 unfolding skip_both_in
-returns c = last c.skip-2.ensures (kept c.skip.ensures _ (begins refl))
+returns c = last c.skip_comments_discard.ensures (kept c.skip_separators.ensures _ (begins refl))

@@ -1,4 +1,5 @@
 -- `steps::state::Parser::skip_comments` meets its contract.
+use mathlib.Core.Bool.{false}
 use Rattle.steps.specs.Into.{skip_comments_in, bytes_left}
 use Rattle.steps.proofs.Chain.{Left}
 use Rattle.steps.proofs.state.Parser.skip_comments.Given as goal
@@ -8,7 +9,7 @@ abbrev pub invariant-loop-self : goal.invariant-loop-self
 invariant-loop-self l =
     let s = l.fn.self in
     let t = l.self in
-    Left (skip_comments_in s.text.now l.separators s.state s.nodes.now s.comments.now) s (skip_comments_in s.text.now l.separators t.state t.nodes.now t.comments.now) t
+    Left (skip_comments_in s.text.now false s.state s.nodes.now s.comments.now) s (skip_comments_in s.text.now false t.state t.nodes.now t.comments.now) t
 
 abbrev pub decreases-loop-self : goal.decreases-loop-self
 decreases-loop-self l = bytes_left l.self.text.now l.self.state

@@ -1,8 +1,0 @@
--- `move_tables::parent` meets its contract.
-use borrow.Author.Rules.{rules}
-use Rattle.move_tables.specs.Walk.{parent_in}
-use Rattle.move_tables.proofs.parent.Goals as goal
-
-pub returns : goal.returns
-unfolding parent_in
-returns c = search rules

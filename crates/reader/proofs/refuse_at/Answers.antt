@@ -1,8 +1,0 @@
--- `reader::refuse_at` meets its contract.
-use mathlib.Core.Path.{◌∙◌}
-use Rattle.reader.specs.Into.{refusing_at}
-use Rattle.reader.proofs.refuse_at.Goals as goal
-
-pub returns : goal.returns
-unfolding refusing_at
-returns c = c.refuse.ensures ∙ rw (c.saturating_sub-length.ensures, ← c.index_of-end.ensures, ← c.index_of-place.ensures, c.end_rule-kind.ensures)
