@@ -57,7 +57,7 @@ impl Writer<'_> {
         Nodes(self.nodes).number(self.at.node, k)
     }
 
-    // The kind's number of the node record ahead; 0 behind the last one.
+    // The kind's number of the node record ahead, as a lent table may hold any; 0 behind the last one.
     pub fn kind_number(&self) -> u32
         ensures { result ≡ kind_at self.now.nodes.now (room node_width self.now.nodes.now) self.now.at.node }
     {

@@ -8,7 +8,7 @@ ghost use Rattle.enum_numbers.specs.Whole.{judged};
 use lexer::error::Refusal;
 use reader::Lent;
 
-// The numbers; at a refusal nothing is wiped yet. In parts, as a print.
+// The numbers; at a refusal nothing is wiped yet. In parts: parts of what a struct holds can't yet be lent together with its list.
 fn try_number(
     text: &[u8],
     nodes: &mut [u32],
@@ -21,7 +21,7 @@ fn try_number(
     enum_members::number_members(text, nodes, counts.nodes, list)
 }
 
-// Reads a text into both tables, and gives every enum member's number, enum by enum in text order. Answers how many members there are.
+// Reads a text into both tables, and gives every enum member's number, enum by enum in text order. Answers how many members there are. The parameters are document 02's, and C's.
 pub fn numbers(
     text: &[u8],
     nodes: &mut [u32],

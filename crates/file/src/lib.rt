@@ -97,7 +97,7 @@ impl File<'_> {
         self.store(printed, lent);
     }
 
-    // One call.
+    // One call; which one it is is the request's to say, and C's.
     fn call(&mut self, indent: u32, request: Request, lent: &mut Lent<u8>)
         ensures { Leaves (after indent (asked request) (held self.old lent.old)) self.old self.new lent.old lent.new }
     {
@@ -120,7 +120,7 @@ impl File<'_> {
     }
 }
 
-// Readings and printings of the file in the first bytes of its space, one after another; the length of the file afterwards.
+// Readings and printings of the file in the first bytes of its space, one after another; the length of the file afterwards. The parameters are C's.
 // A request is four numbers: 0 for a reading, else a printing; how much of both tables and of the output the call is lent.
 pub fn run(
     space: &mut [u8],

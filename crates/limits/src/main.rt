@@ -26,7 +26,7 @@ impl fmt::Display for Numbers<'_> {
     }
 }
 
-// Writes an answer: A and the counts, or R, number, place and length.
+// Writes an answer: A and the counts, or R, number, place and length. It is a `Result`, std's, so it has no `Display` of ours.
 fn write_answer(out: Stdout, answer: Answer) -> io::Result<()> {
     match answer {
         Ok(Counts { nodes, comments }) => print!(out; "A {nodes} {comments}"),

@@ -99,7 +99,7 @@ pub extern "C" fn hirvelan_place(text: &[u8], offset: u32, place: &mut [u32])
     ast::lay(place, &[found.line, found.column, found.index], 0);
 }
 
-// Prints a text at an indent. The answer's numbers: 0, the counts of nodes and of comments and the bytes written, or a refusal's number, place and length.
+// Prints a text at an indent. The answer's numbers: 0, the counts of nodes and of comments and the bytes written, or a refusal's number, place and length; not by `tell`, as they have 64 bits.
 #[unsafe(no_mangle)]
 pub extern "C" fn hirvelan_print(
     text: &[u8],

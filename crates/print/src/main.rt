@@ -66,7 +66,7 @@ fn write_print(rt: &HostRuntime, out: &[u8], bytes: usize) -> io::Result<()> {
     Ok(())
 }
 
-// Writes the line of a text's refusal: its number, where it is, and what is wrong.
+// Writes the line of a text's refusal: its number, where it is, and what is wrong; line and column are the text's, so it is no `Display`.
 fn write_refusal(rt: &HostRuntime, text: &[u8], refusal: Refusal) -> io::Result<()> {
     let Refusal { kind, place, .. } = refusal;
     let at = place::find(text, place);

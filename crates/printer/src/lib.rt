@@ -12,7 +12,7 @@ use reader::Lent;
 use steps::table;
 use writer::{Print, Printed};
 
-// Writes the definitions of both tables; how many bytes they take, one more than the output holds where they did not fit, as the writer's cursor has it.
+// Writes the definitions of both tables; how many bytes they take, one more than the output holds where they did not fit, as the writer's cursor has it. In parts: see `try_print`.
 fn write(
     text: &[u8],
     indent: u32,
@@ -73,7 +73,7 @@ fn try_print(
     })
 }
 
-// Prints a text at an indent: reads it into both tables, then writes its definitions.
+// Prints a text at an indent: reads it into both tables, then writes its definitions. The parameters are document 01's, and C's.
 pub fn print(
     text: &[u8],
     indent: u32,

@@ -149,7 +149,7 @@ impl<'a> Nodes<'a> {
         Kind::try_from(number).ok()
     }
 
-    // The number of its kind, whatever it is; 0 behind the last one.
+    // The number of its kind, whatever it is, as a lent table may hold any; 0 behind the last one.
     #[tactic(auto, using(crate::proofs::RecordLaws::held_or), unfolding(ast::specs::Records::node_width, crate::specs::Table::kind_at))]
     pub fn kind_number(self, n: u32) -> u32
         ensures { result ≡ kind_at self.entry.0.now (room node_width self.entry.0.now) n }

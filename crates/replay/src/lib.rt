@@ -174,7 +174,7 @@ pub fn read_part<R: Read>(input: &mut R, space: &mut [u8]) -> io::Result<usize>
     input::read_full(input, &mut space[..length])
 }
 
-// What the list has for a text: the counts of nodes and of comments, or the refusal's number, place and length.
+// What the list has for a text, its numbers as they are kept: the counts of nodes and of comments, or the refusal's number, place and length.
 pub type Listed = Result<[u32; 2], [u32; 3]>;
 
 // The answer of the next text.

@@ -18,7 +18,7 @@ const START_LINE: usize = ast::column::START + 1;
 
 const END_LINE: usize = ast::column::END + 1;
 
-// A table of records of so many numbers.
+// A table of records of so many numbers, compared as they are listed, one by one.
 #[derive(Clone, Copy)]
 struct Records<'a, const WIDTH: usize> {
     table: &'a [u32],

@@ -20,7 +20,7 @@ use std::{fmt, io};
 // The bytes of a token in the list.
 const ROW: usize = 28;
 
-// A text of the list, rico's verdict and its place, and the rows of its tokens.
+// A text of the list, rico's verdict and its place, as the list has them, and the rows of its tokens. What is compared with it is compared by hand: the rows are bytes.
 #[derive(Clone, Copy)]
 struct Entry<'a> {
     text: &'a [u8],

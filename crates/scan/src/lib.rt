@@ -125,7 +125,7 @@ fn find_line_feed(text: &[u8], at: usize) -> usize
     find(text, at, |byte| byte == b'\n')
 }
 
-// What answers a Scan is inlined: called, it would answer through memory, and each caller would copy the answer.
+// What answers a Scan is inlined: called, it would answer through memory, and each caller would copy the answer. Each asks where the scan stands (`Reached`), each of another state.
 
 // The number whose exponent's digits are to start at `at`; without one it ends at `end` as `kind`.
 #[inline(always)]

@@ -1,4 +1,4 @@
-// Rust's parse::<u64> on the bytes of an integer: a leading `+` is allowed, a `-` is not. std's is of a str, whose making would look at each byte once more; `number::digits` is of 32 bits, and of hexadecimal digits too.
+// Rust's parse::<u64> on the bytes of an integer: a leading `+` is allowed, a `-` is not. std's is of a str, whose making would look at each byte once more; `number::digits` is of 32 bits, and means another number of bytes that are no decimal digits.
 ghost use Rattle.std.specs.Prelude.{◌≡◌, ◌^◌, cond, ltb};
 ghost use Rattle.parser.specs.Definitions.{decimal, is_id};
 ghost use Rattle.steps.specs.Into.{is_id_at};

@@ -179,7 +179,7 @@ impl Parser<'_> {
         accepts
     }
 
-    // Past the tokens to which `is_passed` says yes.
+    // Past the tokens to which `is_passed` says yes. A clause that ties a closure to its meaning is about the method's own type parameter, so each method that takes one has its own.
     fn skip_while<F: Fn(&Parser) -> bool>(&mut self, is_passed: F)
         requires callable { F.IsAlwaysCallable is_passed }
         requires some { (s : _) → F.post is_passed s true → eqb (code_of s.now.state) no_token ≡ false }
