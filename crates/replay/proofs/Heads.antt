@@ -31,10 +31,12 @@ module _ (x y z : ℕ) where
   refusal_read (Some xs) None b d h i j n = absurd h
   refusal_read (Some xs) (Some ys) None d h i j n = absurd i
   refusal_read (Some xs) (Some ys) (Some zs) None h i j n = absurd j
-  refusal_read (Some xs) (Some ys) (Some zs) (Some us) h i j n = λ l.
-      let p : x ≡ number_at xs 0 = h.0 (omega (arith, l)) in
-      let r : zs ≡ drop 8 xs = rest_behind xs 4 y h.1 i in
-      (λ e. n (p ∙ e), rw (p, is_behind xs 4 y h.1 i (omega (arith, l)), is_behind xs 8 z r j l), rest_behind xs 8 z r j)
+  refusal_read (Some xs) (Some ys) (Some zs) (Some us) h i j n =
+      let r : zs ≡ drop 8 xs = rest_behind xs 4 y h.1 i in (
+        λ l e. n (h.0 l ∙ e),
+        λ l. let p : x ≡ number_at xs 0 = h.0 (omega (arith, l)) in rw (p, is_behind xs 4 y h.1 i (omega (arith, l)), is_behind xs 8 z r j l),
+        rest_behind xs 8 z r j,
+      )
 
   pub counts_read : (v w : ℕ) (o a b d f k : Option (List ℕ)) → ReadsNumber x o a → ReadsNumber y a b → ReadsNumber z b d → ReadsNumber v d f → ReadsNumber w f k → x ≡ 0
       → ReadsAnswer (Ok (v ∷ w ∷ [])) o k
@@ -44,9 +46,8 @@ module _ (x y z : ℕ) where
   counts_read v w (Some xs) (Some ys) (Some zs) None f k h i j m q n = absurd j
   counts_read v w (Some xs) (Some ys) (Some zs) (Some us) None k h i j m q n = absurd m
   counts_read v w (Some xs) (Some ys) (Some zs) (Some us) (Some vs) None h i j m q n = absurd q
-  counts_read v w (Some xs) (Some ys) (Some zs) (Some us) (Some vs) (Some ws) h i j m q n = λ l.
-      let p : x ≡ number_at xs 0 = h.0 (omega (arith, l)) in
+  counts_read v w (Some xs) (Some ys) (Some zs) (Some us) (Some vs) (Some ws) h i j m q n =
       let r : zs ≡ drop 8 xs = rest_behind xs 4 y h.1 i in
       let s : us ≡ drop 12 xs = rest_behind xs 8 z r j in
       let t : vs ≡ drop 16 xs = rest_behind xs 12 v s m in
-      (sym p ∙ n, rw (is_behind xs 12 v s m (omega (arith, l)), is_behind xs 16 w t q l), rest_behind xs 16 w t q)
+      (λ l. sym (h.0 l) ∙ n, λ l. rw (is_behind xs 12 v s m (omega (arith, l)), is_behind xs 16 w t q l), rest_behind xs 16 w t q)

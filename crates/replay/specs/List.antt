@@ -36,10 +36,11 @@ unfoldable pub PassesParts : ℕ → Option (List ℕ) → Option (List ℕ) →
 PassesParts zero old new = old ≡ new
 PassesParts (suc n) old new = (left : Option (List ℕ)) × PassesParts n old left × PassesPart left new
 
--- what the list has for a text: 0, two numbers more, and the counts; or the refusal's three numbers
+-- what the list has for a text: 0, two numbers more, and the counts; or the refusal's three numbers. Of a list that ends before them it says what the numbers that are there say
 abbrev pub ReadsAnswer : Result (List ℕ) (List ℕ) → Option (List ℕ) → Option (List ℕ) → Type 0
 ReadsAnswer answer None new = ⊤
 ReadsAnswer answer (Some xs) None = ⊥
-ReadsAnswer (Ok counts) (Some xs) (Some ys) = 20 ≤ length xs → (number_at xs 0 ≡ 0) × (counts ≡ number_at xs 12 ∷ number_at xs 16 ∷ []) × (ys ≡ drop 20 xs)
+ReadsAnswer (Ok counts) (Some xs) (Some ys) =
+    (4 ≤ length xs → number_at xs 0 ≡ 0) × (20 ≤ length xs → counts ≡ number_at xs 12 ∷ number_at xs 16 ∷ []) × (ys ≡ drop 20 xs)
 ReadsAnswer (Err refusal) (Some xs) (Some ys) =
-    12 ≤ length xs → (number_at xs 0 ≡ 0 → ⊥) × (refusal ≡ number_at xs 0 ∷ number_at xs 4 ∷ number_at xs 8 ∷ []) × (ys ≡ drop 12 xs)
+    (4 ≤ length xs → number_at xs 0 ≡ 0 → ⊥) × (12 ≤ length xs → refusal ≡ number_at xs 0 ∷ number_at xs 4 ∷ number_at xs 8 ∷ []) × (ys ≡ drop 12 xs)
