@@ -136,7 +136,7 @@ module _ (text : List ℕ) (short : length text ≤ 65536) where
 
   -- ---- the document
 
-  refused_none : (e : ℕ) (st : State) → eqb (code_of st) 255 ≡ true → (t u : List ℕ) → refused e st t u ≡ stop 3 st.last t u
+  refused_none : (e : ℕ) (st : State) → eqb (code_of st) 255 ≡ true → (t u : List ℕ) → refused e st t u ≡ stop 3 st.last st t u
   unfolding refused
   refused_none e st k t u = rw k
 

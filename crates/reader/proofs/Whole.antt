@@ -1,8 +1,7 @@
 -- The document and the whole reading in code.
 --     gives, gives_on       what a call gives, by what else it is; of tables that are lent on
---     with_state, without_state, refused_with, refused_without   an answer that has the state, and one that does not
 --     handed                the tables, by the names that they were lent under
---     all_read              the first token, and then all of the text
+--     all_read, from_first  the first token, and then all of the text
 --     rest_is               a definition that was lent the unused rest of the table
 --     parse_unknown         22, of a text that is parsed
 --     parse_judged          what the grammar finds
@@ -21,20 +20,16 @@ use Rattle.lexer.specs.Check.{checked}
 use Rattle.scan.proofs.Part.{part}
 use Rattle.ast.specs.Records.{node_width, cleared}
 use Rattle.steps.specs.declared.state.State.{State}
-use Rattle.std.specs.Prelude.{⊤, Ok, Err}
-use Rattle.std.specs.Result.{IsErr, IsErrAnd}
-use Rattle.std.proofs.lemmas.Result.{err_from_is_err_and}
+use Rattle.std.specs.Prelude.{Ok, Err}
 use Rattle.steps.specs.declared.state.Parser.{Parser}
 use Rattle.steps.specs.Reads.{Parsed, tells, Reads, Does}
 use Rattle.steps.proofs.Chain.{begins, kept, last}
-use Rattle.std.specs.declared.result.Result.{Result}
-use Rattle.steps.specs.declared.state.Raised.{Raised}
 use Rattle.parser.specs.Read.{Answer, Reading, outcome_by, outcome, answer, left, reading}
-use Rattle.steps.specs.Into.{Out, done, stop, shows, advance_in, advanced, after, rest_at}
+use Rattle.steps.specs.Into.{Out, done, stop, advance_in, advanced, after, rest_at}
 use Rattle.parse_definitions.specs.Into.{definition_in}
 use Rattle.reader.specs.declared.Tables.{Tables}
 use Rattle.reader.specs.Gives.{Gives}
-use Rattle.reader.specs.Into.{in_rest, rest_in, document_in, beginning, refusing, refusing_at, judged, unscanned, settled, parsing}
+use Rattle.reader.specs.Into.{in_rest, rest_in, document_in, unread, beginning, refusing, refusing_at, judged, unscanned, settled, parsing}
 
 -- a call's answer and tables, by what else they are
 pub gives : {m n : List ℕ → List ℕ → Reading} {s t : Tables} {r : Answer} → Gives m s t r → m s.nodes.now s.comments.now ≡ n s.nodes.now s.comments.now → Gives n s t r
@@ -50,16 +45,16 @@ lent_tail at t u =
     let h : length (drop at t) ≤ length t - at = omega (arith, length-drop at t) in
     rw (drop_of_length-le (drop at t) h, append-nil u) refl
 
-shown_rest : (a : Result State Raised) (i : ℕ) (t t₁ t₂ u' : List ℕ) → t₂ ≡ take i t ++ t₁ → shows a t₂ u' ≡ in_rest i t (shows a t₁ u')
-unfolding shows in_rest
-shown_rest (Ok st) i t t₁ t₂ u' e = ap (λ (x : List ℕ). done st x u') e
-shown_rest (Err r) i t t₁ t₂ u' e = ap (λ (x : List ℕ). stop (number_of r.kind) r.loc x u') e
+told_rest : (a : Parsed) (i : ℕ) (st : State) (t t₁ t₂ u' : List ℕ) → t₂ ≡ take i t ++ t₁ → tells a st t₂ u' ≡ in_rest i t (tells a st t₁ u')
+unfolding tells in_rest
+told_rest (Ok x) i st t t₁ t₂ u' e = ap (λ (x : List ℕ). done st x u') e
+told_rest (Err r) i st t t₁ t₂ u' e = ap (λ (x : List ℕ). stop (number_of r.kind) r.loc st x u') e
 
-pub rest_is : (text : List ℕ) (st : State) (at : ℕ) (t t₁ u u' : List ℕ) (a : Result State Raised) → at ≡ rest_at (st.next * node_width) (length t) →
-    shows a t₁ u' ≡ definition_in text st.next st (take (length t - at) (drop at t)) u → shows a (put_mid at (length t - at) t t₁) u' ≡ rest_in text st t u
+pub rest_is : (text : List ℕ) (st st' : State) (at : ℕ) (t t₁ u u' : List ℕ) (a : Parsed) → at ≡ rest_at (st.next * node_width) (length t) →
+    tells a st' t₁ u' ≡ definition_in text st.next st (take (length t - at) (drop at t)) u → tells a st' (put_mid at (length t - at) t t₁) u' ≡ rest_in text st t u
 unfolding rest_in
-rest_is text st at t t₁ u u' a h e =
-    shown_rest a at t t₁ _ u' (lent_tail at t t₁)
+rest_is text st st' at t t₁ u u' a h e =
+    told_rest a at st' t t₁ _ u' (lent_tail at t t₁)
     ∙ ap (in_rest at t) (e ∙ ap (λ (x : List ℕ). definition_in text st.next st x u) (part t at))
     ∙ ap (λ (i : ℕ). in_rest i t (definition_in text st.next st (drop i t) u)) h
 
@@ -70,7 +65,7 @@ refusing_same e p n t u t' u' h g = rw (h, g)
 judged_same : (o : Out) (len : ℕ) (t u t₁ u₁ : List ℕ) → length t₁ ≡ length t → length u₁ ≡ length u → judged o len t₁ u₁ ≡ judged o len t u
 unfolding judged refusing_at
 judged_same (done st t' u') len t u t₁ u₁ h g = refl
-judged_same (stop e l t' u') len t u t₁ u₁ h g = refusing_same _ _ _ t u t₁ u₁ h g
+judged_same (stop e l st t' u') len t u t₁ u₁ h g = refusing_same _ _ _ t u t₁ u₁ h g
 
 module _ (text t u t₁ u₁ : List ℕ) (o : Out) (from : ℕ) (document : o ≡ document_in text (beginning text) t u)
     (f : from ≡ unscanned o) (y : length t₁ ≡ length t) (z : length u₁ ≡ length u) where
@@ -88,41 +83,19 @@ module _ (text t u t₁ u₁ : List ℕ) (o : Out) (from : ℕ) (document : o �
   unfolding settled
   parse_judged r g q = q ∙ judged_same _ _ t u t₁ u₁ y z ∙ parsed None g
 
--- ---- from an answer with the state to one without, and back
-
-module _ (X : Out) (st : State) (t u : List ℕ) where
-  pub with_state : (r : Parsed) (x : ⊤) → r ≡ Ok x → tells r st t u ≡ X → shows (Ok st) t u ≡ X
-  unfolding tells shows
-  with_state r x h e = sym (ap (λ (a : Parsed). tells a st t u) h) ∙ e
-
-  pub without_state : shows (Ok st) t u ≡ X → tells (Ok tt) st t u ≡ X
-  unfolding tells shows
-  without_state e = e
-
-  -- a `?` hands the error on
-  pub refused_with : (y : Raised) (r : Parsed) (a : Result State Raised) → r ≡ Err y → IsErr a × IsErrAnd a (λ z. z ≡ y) → tells r st t u ≡ X → shows a t u ≡ X
-  unfolding tells shows
-  refused_with y r a h g e =
-      let p = err_from_is_err_and a g.1 in
-      let q : a ≡ Err y = cc in
-      ap (λ (b : Result State Raised). shows b t u) q ∙ sym (ap (λ (b : Parsed). tells b st t u) h) ∙ e
-
-  pub refused_without : (y : Raised) (a : Parsed) → IsErr a × IsErrAnd a (λ z. z ≡ y) → shows (Err y) t u ≡ X → tells a st t u ≡ X
-  unfolding tells shows
-  refused_without y a g e =
-      let p = err_from_is_err_and a g.1 in
-      let q : a ≡ Err y = cc in
-      ap (λ (b : Parsed). tells b st t u) q ∙ e
-
 -- the tables, by the names that they were lent under
-pub handed : (X : Out) (a : Result State Raised) (t t' u u' : List ℕ) → shows a t u ≡ X → t' ≡ t → u' ≡ u → shows a t' u' ≡ X
-handed X a t t' u u' e h g = ap₂ (λ (x y : List ℕ). shows a x y) h g ∙ e
+pub handed : (X : Out) (a : Parsed) (st : State) (t t' u u' : List ℕ) → tells a st t u ≡ X → t' ≡ t → u' ≡ u → tells a st t' u' ≡ X
+handed X a st t t' u u' e h g = ap₂ (λ (x y : List ℕ). tells a st x y) h g ∙ e
 
 -- the first token, and then all of the text
 pub all_read : {s t u : Parser} {r : Parsed} → Does (λ x. advance_in x.text) s t → Reads (λ x. document_in x.text) t u r
     → Reads (λ x st. document_in x.text (advanced x.text st)) s u r
 unfolding advance_in after
 all_read a d = last d (kept a (document_in _) (begins refl))
+
+pub from_first : (text t u : List ℕ) (o : Out) (st : State) → o ≡ document_in text (advanced text st) t u → st ≡ unread → o ≡ document_in text (beginning text) t u
+unfolding beginning
+from_first text t u o st e h = e ∙ ap (λ (s : State). document_in text (advanced text s) t u) h
 
 -- 20, 21, 22
 module _ (text t u : List ℕ) where

@@ -18,7 +18,7 @@ use Rattle.parse_definitions.specs.Into.{definition_in}
 
 unfoldable pub in_rest : ℕ → List ℕ → Out → Out
 in_rest i t (done st t' u') = done st (take i t ++ t') u'
-in_rest i t (stop n l t' u') = stop n l (take i t ++ t') u'
+in_rest i t (stop n l st t' u') = stop n l st (take i t ++ t') u'
 
 -- a definition, its records in the unused rest of the table
 unfoldable pub rest_in : List ℕ → M
@@ -62,12 +62,12 @@ fits st t u =
 
 unfoldable pub judged : Out → ℕ → List ℕ → List ℕ → Reading
 judged (done st t' u') len t u = fits st t' u'
-judged (stop e l t' u') len t u = refusing_at e (unpacked_loc l) len t u
+judged (stop e l st t' u') len t u = refusing_at e (unpacked_loc l) len t u
 
 -- from where on tokens are still to be looked for: behind what was read; from the start where the grammar refuses
 unfoldable pub unscanned : Out → ℕ
 unscanned (done st t u) = (unpacked st.loc.end).index
-unscanned (stop e l t u) = 0
+unscanned (stop e l st t u) = 0
 
 -- 22 comes before what the grammar finds
 unfoldable pub settled : Option ℕ → Out → ℕ → List ℕ → List ℕ → Reading

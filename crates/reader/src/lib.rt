@@ -6,8 +6,8 @@ ghost use Rattle.lexer.specs.Limit.{limit};
 ghost use Rattle.lexer.specs.Refusal.{number_of};
 ghost use Rattle.parser.specs.Read.{reading, told};
 ghost use Rattle.steps.specs.Packed.{unpacked_loc};
-ghost use Rattle.steps.specs.Into.{shows};
-ghost use Rattle.steps.specs.Reads.{Does, Reads};
+ghost use Rattle.steps.specs.Into.{advanced};
+ghost use Rattle.steps.specs.Reads.{Does, Reads, tells};
 ghost use Rattle.parse_definitions.specs.Into.{definition_in};
 ghost use Rattle.reader.specs.Into.{rest_in, over_in, between_in, document_in, unread, beginning, refusing, ended, refusing_at, fits, judged, unscanned, parsing};
 ghost use Rattle.reader.specs.Gives.{Wipes, Gives};
@@ -31,21 +31,22 @@ struct Short<'a> {
 // In parts: of a parser, part of one table and the other can't yet be lent together.
 fn parse_from(
     short: Short,
-    state: State,
+    state: &mut State,
     rest: &mut [u32],
     comments: &mut [u32],
-) -> Result<State, Raised>
-    ensures { shows result rest.new comments.new ≡ definition_in short.entry.text.now state.next state rest.old comments.old }
+) -> Parsed
+    ensures { tells result state.new rest.new comments.new ≡ definition_in short.entry.text.now state.old.next state.old rest.old comments.old }
 {
     let mut p = Parser {
         text: short.text,
         nodes: rest,
         base: state.next,
         comments,
-        state,
+        state: *state,
     };
-    parse_definitions::parse_definition(&mut p)?;
-    Ok(p.state)
+    let parsed = parse_definitions::parse_definition(&mut p);
+    *state = p.state;
+    parsed
 }
 
 // The definition, its records in the unused rest of the table.
@@ -54,8 +55,7 @@ fn parse_in_rest(p: &mut Parser) -> Parsed
 {
     let at = table::rest_at(p.state.next as usize * ast::NODE_WIDTH, p.nodes.len());
     let short = Short { text: p.text };
-    p.state = parse_from(short, p.state, &mut p.nodes[at..], p.comments)?;
-    Ok(())
+    parse_from(short, &mut p.state, &mut p.nodes[at..], p.comments)
 }
 
 // The end of the text: refused where the last token ends at offset 1.
@@ -101,20 +101,26 @@ fn unread() -> State
     }
 }
 
-// All of a text.
-fn parse_text(short: Short, nodes: &mut [u32], comments: &mut [u32]) -> Result<State, Raised>
-    ensures { shows result nodes.new comments.new ≡ document_in short.entry.text.now (beginning short.entry.text.now) nodes.old comments.old }
+// All of a text, from before its first token.
+fn parse_text(
+    short: Short,
+    state: &mut State,
+    nodes: &mut [u32],
+    comments: &mut [u32],
+) -> Parsed
+    ensures { tells result state.new nodes.new comments.new ≡ document_in short.entry.text.now (advanced short.entry.text.now state.old) nodes.old comments.old }
 {
     let mut p = Parser {
         text: short.text,
         nodes,
         base: 0,
         comments,
-        state: unread(),
+        state: *state,
     };
     p.advance();
-    parse_document(&mut p)?;
-    Ok(p.state)
+    let parsed = parse_document(&mut p);
+    *state = p.state;
+    parsed
 }
 
 // The end rule: with no token left, 3 if the last token ends at the text's length, else 1.
@@ -132,12 +138,12 @@ fn end_rule(kind: ErrorKind, end: u32, len: usize) -> ErrorKind
 }
 
 // From where on tokens are still to be looked for: behind what was read; from the start where the grammar refuses.
-fn unscanned(parsed: Result<State, Raised>) -> usize
-    ensures { (result ≤ 4294967295) × ((t u : List ℕ) → result ≡ unscanned (shows parsed t u)) }
+fn unscanned(parsed: Parsed, state: State) -> usize
+    ensures { (result ≤ 4294967295) × ((t u : List ℕ) → result ≡ unscanned (tells parsed state t u)) }
 {
     match parsed {
         Err(_) => 0,
-        Ok(state) => {
+        Ok(()) => {
             let loc = state.loc;
             packed::index_of(loc.end) as usize
         }
@@ -204,12 +210,12 @@ impl Tables<'_> {
     }
 
     // What the grammar finds.
-    fn judge(&mut self, parsed: Result<State, Raised>, len: usize) -> Answer
-        ensures { Gives (λ t u. judged (shows parsed t u) len t u) self.old self.new result }
+    fn judge(&mut self, parsed: Parsed, state: State, len: usize) -> Answer
+        ensures { Gives (λ t u. judged (tells parsed state t u) len t u) self.old self.new result }
     {
         match parsed {
             Err(raised) => self.refuse_at(raised, len),
-            Ok(state) => self.fit(state),
+            Ok(()) => self.fit(state),
         }
     }
 
@@ -218,12 +224,13 @@ impl Tables<'_> {
         ensures { Gives (parsing short.entry.text.now) self.old self.new result }
     {
         let text = short.text;
-        let parsed = parse_text(short, self.nodes, self.comments);
-        let from = unscanned(parsed);
+        let mut state = unread();
+        let parsed = parse_text(short, &mut state, self.nodes, self.comments);
+        let from = unscanned(parsed, state);
         if let Some(at) = lexer::unrecognized(text, from) {
             return self.refuse(Refusal::at(ErrorKind::NoToken, at as u32));
         }
-        self.judge(parsed, text.len())
+        self.judge(parsed, state, text.len())
     }
 
     fn read(&mut self, text: &[u8]) -> Answer

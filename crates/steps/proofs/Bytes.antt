@@ -112,7 +112,7 @@ module _ {text : List ℕ} where
 
 -- ---- the steps
 
-refused_is : (e : ℕ) (st : State) (t u : List ℕ) → refused e st t u ≡ cond (eqb (code_of st) 255) (stop 3 st.last t u) (stop e st.loc t u)
+refused_is : (e : ℕ) (st : State) (t u : List ℕ) → refused e st t u ≡ cond (eqb (code_of st) 255) (stop 3 st.last st t u) (stop e st.loc st t u)
 unfolding refused
 refused_is e st t u = refl
 

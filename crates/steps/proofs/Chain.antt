@@ -5,7 +5,7 @@
 --     off                       a call that refused: `?` hands its error on
 --     last, ends                the last call; nothing more to do
 --     does                      what the body itself writes
---     halts                     a refusal at the token ahead
+--     halts                     a refusal at the token ahead: the parser stands where it stood
 --     when, unless              a test, by what decides it
 --     left_by, text_by          what a call leaves
 --     accepted, declined        a token that is taken if it is ahead
@@ -58,7 +58,7 @@ pub off : {W : Source → M} {s t u : Parser} {m : Source → M} {r a : Parsed} 
     → Left (W (source s) s.state s.nodes.now s.comments.now) s (after (m (source s) t.state t.nodes.now t.comments.now) k) t → Reads W s u a
 unfolding after tells
 off {W} {s} {t} {u} {m} {r} {a} {e} w h g k v =
-    let f : stop (number_of e.kind) e.loc u.nodes.now u.comments.now ≡ m (source s) t.state t.nodes.now t.comments.now =
+    let f : stop (number_of e.kind) e.loc u.state u.nodes.now u.comments.now ≡ m (source s) t.state t.nodes.now t.comments.now =
     sym (ap (λ (x : Parsed). tells x u.state u.nodes.now u.comments.now) h) ∙ told (source s) w v.same in
     let p = err_from_is_err_and a g.1 in
     let q : a ≡ Err e = cc in
@@ -88,7 +88,7 @@ pub does : {W : Source → M} {s t : Parser} → done t.state t.nodes.now t.comm
 unfolding tells
 does e h l w = record { goes = e; same = h; lent = l; wide = w }
 
-pub halts : {W : Source → M} {s t : Parser} {e : Raised} (st : State) (k : ErrorKind) → ((x y : List ℕ) → stop (number_of e.kind) e.loc x y ≡ refused (number_of k) st x y)
+pub halts : {W : Source → M} {s t : Parser} {e : Raised} (st : State) (k : ErrorKind) → ((x y : List ℕ) → stop (number_of e.kind) e.loc t.state x y ≡ refused (number_of k) st x y)
     → Left (W (source s) s.state s.nodes.now s.comments.now) s (refused (number_of k) st t.nodes.now t.comments.now) t → Reads W s t (Err e)
 unfolding tells
 halts {t = t} st k h v = record { goes = h t.nodes.now t.comments.now ∙ sym v.goes; same = v.same; lent = v.lent; wide = v.wide }

@@ -202,10 +202,10 @@ leaf_m k halted = halted
 pub data Turn (text : List ℕ) (i b p : ℕ) (fr : Frame) (f : Forest) (closes : State → Bool) (shut : M) : Out → Res Bool → Type 0 where
   shuts : {st st' : State} {t u t' u' : List ℕ} {s : St} → closes st ≡ true → shut st t u ≡ done st' t' u' → At text i b p fr f st' t' u' s
       → Turn text i b p fr f closes shut (done st t u) (ok true s)
-  refuses : {st : State} {t u : List ℕ} {r : Raised} {l : Range} → closes st ≡ true → shut st t u ≡ stop (number r) l t u
+  refuses : {st : State} {t u : List ℕ} {r : Raised} {l : Range} → closes st ≡ true → shut st t u ≡ stop (number r) l st t u
       → Turn text i b p fr f closes shut (done st t u) (no r (unpacked_loc l))
   goes : {st : State} {t u : List ℕ} {s : St} → closes st ≡ false → At text i b p fr f st t u s → Turn text i b p fr f closes shut (done st t u) (ok false s)
-  halts : {r : Raised} {l : Range} {t u : List ℕ} → Turn text i b p fr f closes shut (stop (number r) l t u) (no r (unpacked_loc l))
+  halts : {r : Raised} {l : Range} {st : State} {t u : List ℕ} → Turn text i b p fr f closes shut (stop (number r) l st t u) (no r (unpacked_loc l))
 
 module _ {text : List ℕ} {i b p : ℕ} {fr : Frame} {f : Forest} {closes : State → Bool} {shut : M} {A : Type 0} {Q : A → State → List ℕ → List ℕ → St → Type 0} where
   pub turn_after : {o : Out} {r : Res A} {k : M} {g : A → P Bool} → Meant Q o r

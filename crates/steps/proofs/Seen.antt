@@ -206,7 +206,7 @@ number (raise e (Some t)) = e
 
 pub data Meant {A : Type 0} (Q : A → State → List ℕ → List ℕ → St → Type 0) : Out → Res A → Type 0 where
   went : {a : A} {st : State} {t u : List ℕ} {s : St} → Q a st t u s → Meant Q (done st t u) (ok a s)
-  halted : {r : Raised} {l : Range} {t u : List ℕ} → Meant Q (stop (number r) l t u) (no r (unpacked_loc l))
+  halted : {r : Raised} {l : Range} {st : State} {t u : List ℕ} → Meant Q (stop (number r) l st t u) (no r (unpacked_loc l))
 
 module _ {A B : Type 0} {Q : A → State → List ℕ → List ℕ → St → Type 0} {R : B → State → List ℕ → List ℕ → St → Type 0} where
   pub bind_m : {o : Out} {r : Res A} {k : M} {f : A → P B} → Meant Q o r
@@ -269,7 +269,7 @@ module _ {A : Type 0} {Q : A → State → List ℕ → List ℕ → St → Type
   pub grouped : (o : Out) (k j : M) {r : Res A} → Meant Q (after o (λ st t u. after (k st t u) j)) r → Meant Q (after (after o k) j) r
   unfolding after
   grouped (done st t u) k j h = h
-  grouped (stop e l t u) k j h = h
+  grouped (stop e l st t u) k j h = h
 
 -- a reader of the code means a reader of the definitions that gives the forest G, for nodes of the parent p in a table whose first record is node b
 abbrev pub Means : {A : Type 0} → List ℕ → ℕ → ℕ → ℕ → (A → Forest) → M → P A → Type 0

@@ -13,12 +13,12 @@ use Rattle.steps.specs.Into.{code_of, Out, done, stop, M, ◌⨟◌, after, node
 pub assoc : (o : Out) (k j : M) → after (after o k) j ≡ after o (k ⨟ j)
 unfolding after
 assoc (done st t u) k j = refl
-assoc (stop e l t u) k j = refl
+assoc (stop e l st t u) k j = refl
 
 pub assoc₂ : (o : Out) (k j l : M) → after (after o (k ⨟ j)) l ≡ after o (k ⨟ (j ⨟ l))
 unfolding after
 assoc₂ (done st t u) k j l = assoc (k st t u) j l
-assoc₂ (stop e n t u) k j l = refl
+assoc₂ (stop e n st t u) k j l = refl
 
 pub assoc₃ : (o : Out) (k j l m : M) → after (after (after o (k ⨟ j)) l) m ≡ after o (k ⨟ (j ⨟ (l ⨟ m)))
 assoc₃ o k j l m = assoc (after o (k ⨟ j)) l m ∙ assoc₂ o k j (l ⨟ m)
@@ -27,7 +27,7 @@ pub halted : (e : ℕ) (st : State) (t u : List ℕ) (k : M) → after (refused 
 unfolding refused after
 halted e st t u k = go (eqb (code_of st) 255)
   where
-    go : (b : Bool) → after (cond b (stop 3 st.last t u) (stop e st.loc t u)) k ≡ cond b (stop 3 st.last t u) (stop e st.loc t u)
+    go : (b : Bool) → after (cond b (stop 3 st.last st t u) (stop e st.loc st t u)) k ≡ cond b (stop 3 st.last st t u) (stop e st.loc st t u)
     go true = refl
     go false = refl
 

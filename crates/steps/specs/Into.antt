@@ -20,10 +20,7 @@ use Rattle.parser.specs.Definitions.{is_id}
 use Rattle.steps.specs.declared.packed.Range.{Range}
 use Rattle.steps.specs.declared.state.Ahead.{Ahead}
 use Rattle.steps.specs.declared.state.State.{State}
-use Rattle.steps.specs.declared.state.Raised.{Raised}
-use Rattle.std.specs.Prelude.{Ok, Err, Option, Some, None}
-use Rattle.std.specs.declared.result.Result.{Result}
-use Rattle.lexer.specs.Refusal.{number_of}
+use Rattle.std.specs.Prelude.{Option, Some, None}
 use Rattle.steps.specs.Packed.{unpacked, packed_loc, unpacked_loc}
 
 -- the number of a token, or of none
@@ -38,26 +35,21 @@ numbered (Some k) = code k
 abbrev pub code_of : State → ℕ
 code_of st = numbered st.token
 
--- the state and both tables afterwards; or document 01's number and a place, and both tables
+-- the state and both tables afterwards; or document 01's number and a place, with the state and both tables where reading stopped
 pub data Out : Type 0 where
   done : State → List ℕ → List ℕ → Out
-  stop : ℕ → Range → List ℕ → List ℕ → Out
+  stop : ℕ → Range → State → List ℕ → List ℕ → Out
 
 abbrev pub M : Type 0
 M = State → List ℕ → List ℕ → Out
 
 unfoldable pub after : Out → M → Out
 after (done st t u) k = k st t u
-after (stop n l t u) k = stop n l t u
+after (stop n l st t u) k = stop n l st t u
 
 infixr 20 ◌⨟◌
 abbrev pub ◌⨟◌ : M → M → M
 ◌⨟◌ m k = λ st t u. after (m st t u) k
-
--- what an answer that has the state shows
-unfoldable pub shows : Result State Raised → List ℕ → List ℕ → Out
-shows (Ok st) t u = done st t u
-shows (Err r) t u = stop (number_of r.kind) r.loc t u
 
 -- ---- records
 
@@ -146,7 +138,7 @@ unfoldable pub advance_in : List ℕ → M
 advance_in text st t u = done (advanced text st) t u
 
 unfoldable pub refused : ℕ → M
-refused e st t u = cond (eqb (code_of st) no_token) (stop E.UnexpectedEOF st.last t u) (stop e st.loc t u)
+refused e st t u = cond (eqb (code_of st) no_token) (stop E.UnexpectedEOF st.last st t u) (stop e st.loc st t u)
 
 unfoldable pub refuse_in : ℕ → M
 refuse_in e st t u = refused e st t u
@@ -172,7 +164,7 @@ bytes_left text st = cond (eqb (code_of st) no_token) 0 (suc (length text - (unp
 -- a refusal, or a state with at least x bytes fewer than b
 pub data Within (text : List ℕ) (x b : ℕ) : Out → Type 0 where
   within : {st : State} {t u : List ℕ} → x + bytes_left text st ≤ b → Within text x b (done st t u)
-  stopped : {e : ℕ} {l : Range} {t u : List ℕ} → Within text x b (stop e l t u)
+  stopped : {e : ℕ} {l : Range} {st : State} {t u : List ℕ} → Within text x b (stop e l st t u)
 
 -- of what reads: each time it answers it leaves fewer bytes; or no more
 abbrev pub Falls : List ℕ → M → Type 0

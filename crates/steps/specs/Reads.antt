@@ -18,10 +18,10 @@ source p = record { text = p.text.now; base = p.base }
 abbrev pub Parsed : Type 0
 Parsed = Result ⊤ Raised
 
--- what an answer shows: a refusal does not tell the state
+-- what an answer shows: on a refusal too, where the parser then stands
 unfoldable pub tells : Parsed → State → List ℕ → List ℕ → Out
 tells (Ok x) st t u = done st t u
-tells (Err r) st t u = stop (number_of r.kind) r.loc t u
+tells (Err r) st t u = stop (number_of r.kind) r.loc st t u
 
 -- from one parser to the next: m is done, on the same text and in the same tables
 pub record Reads (m : Source → M) (s t : Parser) (r : Parsed) : Type 0 where

@@ -130,7 +130,7 @@ impl Parser<'_> {
 
     // error: a refusal at the token ahead; with none left 3 at the last one, which the end rule makes 3 or 1.
     pub fn error(&self, kind: ErrorKind) -> Raised
-        ensures { (t u : List ℕ) → stop (error_number result.kind) result.loc t u ≡ refused (error_number kind) self.now.state t u }
+        ensures { (t u : List ℕ) → stop (error_number result.kind) result.loc self.now.state t u ≡ refused (error_number kind) self.now.state t u }
     {
         match self.state.token {
             Some(_) => Raised {
