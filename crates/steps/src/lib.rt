@@ -9,11 +9,12 @@ pub mod table;
 
 ghost use Rattle.std.specs.Prelude.{◌≡◌, ◌≤◌, length};
 ghost use Rattle.lexer.specs.Limit.{limit};
-ghost use Rattle.steps.specs.Into.{lexer_at, found_at};
+ghost use Rattle.steps.specs.Into.{lexer_at, found_at, is_comment, is_separator};
 ghost use Rattle.steps.specs.Packed.{unpacked};
 
 use crate::state::Ahead;
 use lexer::location::{Lexer, Next};
+use token::Token;
 
 // The lexer that stands at a place.
 #[tactic(auto, unfolding(crate::specs::Into::lexer_at))]
@@ -44,4 +45,19 @@ pub fn look(text: &[u8], place: u64) -> Option<Ahead>
         }),
         _ => None,
     }
+}
+
+// Whether a number is a separator's; or a comment's. `Parser` tells both of the token ahead, which has no number to look up.
+#[tactic(auto, unfolding(crate::specs::Into::is_separator, token::specs::Code::code))]
+pub fn is_separator(kind: u32) -> bool
+    ensures { result ≡ is_separator kind }
+{
+    kind == u32::from(Token::Comma) || kind == u32::from(Token::Semicolon)
+}
+
+#[tactic(auto, unfolding(crate::specs::Into::is_comment, token::specs::Code::code))]
+pub fn is_comment(kind: u32) -> bool
+    ensures { result ≡ is_comment kind }
+{
+    kind == u32::from(Token::LineComment) || kind == u32::from(Token::BlockComment)
 }

@@ -251,7 +251,7 @@ impl Parser<'_> {
         table::put_comment(
             self.comments,
             self.state.owned as usize + self.state.waiting as usize,
-            kind,
+            u32::from(kind),
             self.state.loc,
         );
         self.state.waiting = ast::bump(self.state.waiting);
@@ -314,7 +314,7 @@ impl Parser<'_> {
             end: self.state.last.end,
         };
         let row = Row {
-            kind,
+            kind: u32::from(kind),
             parent,
             flags,
             loc,

@@ -1,19 +1,17 @@
 // Records in a lent table.
 ghost use Rattle.std.specs.Prelude.{◌≡◌, ◌+◌, ◌≤◌, length};
 ghost use Rattle.ast.specs.Records.{comment_width, node_width, row, node_row};
-ghost use Rattle.ast.specs.KindNumber.{number_of};
 ghost use Rattle.steps.specs.Into.{sum, put_row, put, put_owner, rest_at};
 ghost use Rattle.steps.specs.Packed.{unpacked_loc};
 
 use crate::packed;
 use crate::packed::Range;
 use ast::column;
-use ast::kind::Kind;
 
-// What every record tells: its kind, its parent, its flags, its range.
+// What every record tells: its kind's number, its parent, its flags, its range. Any numbers: a table is lent, and need hold no record of rico's.
 #[derive(Clone, Copy, Debug, PartialEq, Eq)]
 pub struct Row {
-    pub kind: Kind,
+    pub kind: u32,
     pub parent: u32,
     pub flags: u32,
     pub loc: Range,
@@ -30,10 +28,10 @@ pub fn sum(a: u32, b: u32) -> u32
 // The nine numbers that every record has, from an index on.
 fn put_row(table: &mut [u32], at: usize, r: Row)
     requires { at + comment_width ≤ length table.old }
-    ensures { table.new ≡ put_row at (row (number_of r.kind) r.parent r.flags (unpacked_loc r.loc)) table.old }
+    ensures { table.new ≡ put_row at (row r.kind r.parent r.flags (unpacked_loc r.loc)) table.old }
 {
     let loc = r.loc;
-    table[at] = u32::from(r.kind);
+    table[at] = r.kind;
     table[at + 1] = r.parent;
     table[at + 2] = r.flags;
     table[at + 3] = packed::index_of(loc.start);
@@ -45,8 +43,8 @@ fn put_row(table: &mut [u32], at: usize, r: Row)
 }
 
 // Comment record `index`, without its owner, if the table holds that one.
-pub fn put_comment(comments: &mut [u32], index: usize, kind: Kind, loc: Range)
-    ensures { comments.new ≡ put comment_width index (row (number_of kind) 0 0 (unpacked_loc loc)) comments.old }
+pub fn put_comment(comments: &mut [u32], index: usize, kind: u32, loc: Range)
+    ensures { comments.new ≡ put comment_width index (row kind 0 0 (unpacked_loc loc)) comments.old }
 {
     if comments.len() / ast::COMMENT_WIDTH <= index {
         return;
@@ -62,7 +60,7 @@ pub fn put_comment(comments: &mut [u32], index: usize, kind: Kind, loc: Range)
 
 // Node record `index`, if the table holds that one; `past` is the number just past its last descendant.
 pub fn put_node(nodes: &mut [u32], index: usize, r: Row, past: u32)
-    ensures { nodes.new ≡ put node_width index (node_row (number_of r.kind) r.parent r.flags (unpacked_loc r.loc) past) nodes.old }
+    ensures { nodes.new ≡ put node_width index (node_row r.kind r.parent r.flags (unpacked_loc r.loc) past) nodes.old }
 {
     if nodes.len() / ast::NODE_WIDTH <= index {
         return;

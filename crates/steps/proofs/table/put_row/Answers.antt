@@ -43,5 +43,5 @@ bounds-table-at-9 c = simp length-set (omega arith)
 
 pub returns : goal.returns
 returns c =
-    rw (c.from.ensures, c.column_of-2.ensures, c.line_of-2.ensures, c.index_of-2.ensures, c.column_of.ensures, c.line_of.ensures, c.index_of.ensures)
+    rw (c.column_of-2.ensures, c.line_of-2.ensures, c.index_of-2.ensures, c.column_of.ensures, c.line_of.ensures, c.index_of.ensures)
     (row_on _ _ _ _ _ _ c.requires)

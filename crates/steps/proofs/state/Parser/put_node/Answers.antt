@@ -6,4 +6,4 @@ use Rattle.steps.proofs.state.Parser.put_node.Goals as goal
 
 pub returns : goal.returns
 unfolding node_in put_node
-returns c = does (rw (c.put_node.ensures, c.place_of-index.ensures)) refl refl refl
+returns c = does (rw (c.put_node.ensures, c.from.ensures, c.place_of-index.ensures)) refl refl refl

@@ -13,4 +13,4 @@ unfolding wait_in waits put_waiting code
 returns c =
     let k : number_of c.if-is.kind ≡ cond c.is.result 32 33 =
     elim c.if-is.branch [ then-is w ↦ rw (w.kind-is, w.if-is.true) | else-is w ↦ rw (w.kind-is, w.if-is.false) ] in
-    does (rw (c.bump-self.ensures, c.put_comment.ensures, k, c.is.ensures)) refl refl refl
+    does (rw (c.bump-self.ensures, c.put_comment.ensures, c.from.ensures, k, c.is.ensures)) refl refl refl
