@@ -2,3 +2,4 @@ pub mod Bytes
 pub mod Forms
 pub mod KindTests
 pub mod MeantFields
+pub mod Quiet

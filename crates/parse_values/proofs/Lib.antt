@@ -3,3 +3,4 @@ pub mod Forms
 pub mod KindTests
 pub mod MeantTypes
 pub mod MeantValues
+pub mod Quiet

@@ -13,3 +13,4 @@ pub mod Seen
 pub mod StepLaws
 pub mod SkipLaws
 pub mod NodeLaws
+pub mod Quiet

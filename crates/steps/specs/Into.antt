@@ -173,6 +173,15 @@ Falls text m = (st : State) (t u : List ℕ) → Within text 1 (bytes_left text 
 abbrev pub Rests : List ℕ → M → Type 0
 Rests text m = (st : State) (t u : List ℕ) → Within text 0 (bytes_left text st) (m st t u)
 
+-- an outcome whose comment table is u, a refusal's too
+pub data Keeps (u : List ℕ) : Out → Type 0 where
+  answers : {st : State} {t : List ℕ} → Keeps u (done st t u)
+  refuses : {e : ℕ} {l : Range} {st : State} {t : List ℕ} → Keeps u (stop e l st t u)
+
+-- of what reads: it leaves the comment table as it was
+abbrev pub Quiet : M → Type 0
+Quiet m = (st : State) (t u : List ℕ) → Keeps u (m st t u)
+
 unfoldable pub is_separator : ℕ → Bool
 is_separator k = eqb k T.Comma || eqb k T.Semicolon
 
