@@ -29,12 +29,7 @@ struct Short<'a> {
 
 // The definition ahead; the table is lent from its own record on.
 // In parts: of a parser, part of one table and the other can't yet be lent together.
-fn parse_from(
-    short: Short,
-    state: &mut State,
-    rest: &mut [u32],
-    comments: &mut [u32],
-) -> Parsed
+fn parse_from(short: Short, state: &mut State, rest: &mut [u32], comments: &mut [u32]) -> Parsed
     ensures { tells result state.new rest.new comments.new ≡ definition_in short.entry.text.now state.old.next state.old rest.old comments.old }
 {
     let mut p = Parser {
@@ -102,12 +97,7 @@ fn unread() -> State
 }
 
 // All of a text, from before its first token.
-fn parse_text(
-    short: Short,
-    state: &mut State,
-    nodes: &mut [u32],
-    comments: &mut [u32],
-) -> Parsed
+fn parse_text(short: Short, state: &mut State, nodes: &mut [u32], comments: &mut [u32]) -> Parsed
     ensures { tells result state.new nodes.new comments.new ≡ document_in short.entry.text.now (advanced short.entry.text.now state.old) nodes.old comments.old }
 {
     let mut p = Parser {
