@@ -49,7 +49,10 @@ fn spaces(out: &mut [u8], at: Cursor, count: u32) -> Cursor
     let mut length = at.length;
     for _ in 0..count {
         if out.len() <= length {
-            return Cursor { length: out.len() + 1, ..at };
+            return Cursor {
+                length: out.len() + 1,
+                ..at
+            };
         }
         out[length] = b' ';
         length += 1;
