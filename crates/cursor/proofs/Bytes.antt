@@ -4,24 +4,27 @@
 --     put_in, put_past                   bytes that the output holds, and bytes that it does not
 --     part_none, part_in                 a part that does not lie in the text, and one that does
 --     comments_nothing                   no comments
+--     spaces_all, spaces_none            the spaces left: before the first one, and behind the last one
+--     spaces_turn, spaces_full           one of them, and more than the output holds
 --     token_is, comment_is               a token and a comment, by the part that was read
 use mathlib.Core.Path.{◌≡◌, refl, sym, ap, ◌∙◌}
 use mathlib.Core.Logic.{◌⊎◌, inl, inr}
-use mathlib.Core.List.{List, ◌++◌, append-nil}
+use mathlib.Core.List.{List, [], ◌∷◌, ◌++◌, append-nil}
 use Prim.Native.Nat.{ℕ, zero, suc, ◌+◌, ◌-◌, ◌≤◌, ◌<◌}
 use native.Mathlib.Omega.{arith}
 use mathlib.Core.Bool.{Bool, true, false, cond}
 use lib.Dec.{ltb}
 use borrow.Author.Tests.{ne_eqb, lt-ltb, le-ltb, le-leb, lt-leb}
 use lib.ListN.{length, take, drop, set, get_or, length-drop, drop_of_length-le}
-use lib.Seq.{take_all, take-suc, drop-cons, drop-drop, set_at, append_snoc, length-take-le}
+use lib.Seq.{set_split, take_all, take-suc, drop-cons, drop-drop, set_at, append_snoc, length-take-le}
 use borrow.Rule.Slice.PartMut.{put_mid}
+use Rattle.token.specs.Regex.{bytes as ascii}
 use Rattle.ast.specs.Column as C
 use Rattle.ast.specs.Records.{comment_width, node_width, no_parent, room}
 use Rattle.records.specs.Table as V
 use Rattle.records.specs.Table.{own_at}
 use Rattle.cursor.specs.declared.Cursor.{Cursor}
-use Rattle.cursor.specs.Onto.{Reached, reached, then, ◌⨟◌, number_at, kind_at, parent_at, pass_node, pass_comment, put_out, say_out, part_out, token_out, spaces_out, comment_out, comments_from, comments_out}
+use Rattle.cursor.specs.Onto.{Reached, reached, then, ◌⨟◌, stay, number_at, kind_at, parent_at, pass_node, pass_comment, put_out, say_out, part_out, token_out, spaces_out, comment_out, comments_from, comments_out}
 
 -- ---- what the view of the tables gives, by this crate's definitions
 
@@ -78,6 +81,48 @@ module _ (b : List ℕ) (p : Cursor) (o : List ℕ) where
   pub put_past : length o < p.length + length b → reached (record { node = p.node; comment = p.comment; length = length o + 1 }) o ≡ put_out b p o
   unfolding put_out
   put_past h = rw (lt-leb (p.length + length b) (length o) h)
+
+-- ---- spaces
+
+-- a cursor, with so many bytes printed
+abbrev pub up_to : Cursor → ℕ → Cursor
+up_to p l = record { node = p.node; comment = p.comment; length = l }
+
+module _ (p : Cursor) (l : ℕ) (o : List ℕ) where
+  one_space : l < length o → put_out (32 ∷ []) (up_to p l) o ≡ reached (up_to p (l + 1)) (set o l 32)
+  unfolding put_out
+  one_space h =
+      let e : l + 1 ≡ suc l = omega arith in
+      rw (le-leb (l + 1) (length o) (omega arith), set_split o l 32 h, e)
+
+  no_space : length o ≤ l → put_out (32 ∷ []) (up_to p l) o ≡ reached (up_to p (length o + 1)) o
+  unfolding put_out
+  no_space h = rw (lt-leb (l + 1) (length o) (omega arith))
+
+pub spaces_all : (n : ℕ) (p : Cursor) (o : List ℕ) → spaces_out n p o ≡ spaces_out (n - 0) (up_to p p.length) o
+spaces_all n p o = ap (λ (k : ℕ). spaces_out k p o) (omega arith)
+
+spaces_over : (p : Cursor) (n : ℕ) (o : List ℕ) → spaces_out n (up_to p (length o + 1)) o ≡ reached (up_to p (length o + 1)) o
+unfolding spaces_out stay say_out ascii then
+spaces_over p zero o = refl
+spaces_over p (suc n) o = rw (no_space p (length o + 1) o (omega arith)) (spaces_over p n o)
+
+module _ (Z : Reached) (n i : ℕ) (p : Cursor) (l : ℕ) (o : List ℕ) (v : Z ≡ spaces_out (n - i) (up_to p l) o) where
+  pub spaces_none : n ≤ i → reached (up_to p l) o ≡ Z
+  unfolding spaces_out stay
+  spaces_none h = let e : n - i ≡ 0 = omega arith in sym (v ∙ ap (λ (k : ℕ). spaces_out k (up_to p l) o) e)
+
+  spaces_one : i < n → Z ≡ then (put_out (32 ∷ []) (up_to p l) o) (spaces_out (n - (i + 1)))
+  unfolding spaces_out say_out ascii
+  spaces_one h = let e : n - i ≡ suc (n - (i + 1)) = omega arith in v ∙ ap (λ (k : ℕ). spaces_out k (up_to p l) o) e
+
+  pub spaces_turn : i < n → l < length o → Z ≡ spaces_out (n - (i + 1)) (up_to p (l + 1)) (set o l 32)
+  unfolding then
+  spaces_turn h k = spaces_one h ∙ ap (λ (x : Reached). then x (spaces_out (n - (i + 1)))) (one_space p l o k)
+
+  pub spaces_full : i < n → length o ≤ l → reached (up_to p (length o + 1)) o ≡ Z
+  unfolding then
+  spaces_full h k = sym (spaces_one h ∙ ap (λ (x : Reached). then x (spaces_out (n - (i + 1)))) (no_space p l o k) ∙ spaces_over p (n - (i + 1)) o)
 
 -- ---- put_part
 

@@ -4,7 +4,7 @@
 ghost use Rattle.std.specs.Prelude.{◌≡◌, ◌++◌, ◌≤◌, Bool, ℕ, length, drop, eqb};
 ghost use Rattle.ast.specs.KindNumber.{number_of, kind_of};
 ghost use Rattle.ast.specs.Records.{comment_width, node_width, room};
-ghost use Rattle.cursor.specs.Onto.{W, then, ◌⨟◌, number_at, kind_at, parent_at, pass_node, pass_comment, put_out, part_out, token_out, spaces_out, comment_out, comments_out, pass_comments, below, pass_below};
+ghost use Rattle.cursor.specs.Onto.{W, reached, then, ◌⨟◌, number_at, kind_at, parent_at, pass_node, pass_comment, put_out, part_out, token_out, spaces_out, comment_out, comments_out, pass_comments, below, pass_below};
 ghost use Rattle.cursor.specs.Writes.{Source, source, Turns, Writes};
 
 use ast::kind::Kind;
@@ -40,6 +40,24 @@ pub fn copy(out: &mut [u8], bytes: &[u8])
     for (i, &byte) in bytes.iter().enumerate() {
         out[i] = byte;
     }
+}
+
+// Spaces from where the printer stands, as many as the slice holds. Where it stands behind them; the first one that does not fit ends it.
+fn spaces(out: &mut [u8], at: Cursor, count: u32) -> Cursor
+    ensures { reached result out.new ≡ spaces_out count at out.old }
+{
+    let mut length = at.length;
+    for _ in 0..count {
+        if out.len() <= length {
+            return Cursor {
+                length: out.len() + 1,
+                ..at
+            };
+        }
+        out[length] = b' ';
+        length += 1;
+    }
+    Cursor { length, ..at }
 }
 
 // Whether a node with this parent stands below the owner, or follows it there.
@@ -143,9 +161,7 @@ impl Writer<'_> {
     pub fn put_spaces(&mut self, count: u32)
         ensures { Writes (λ x. spaces_out count) self.old self.new }
     {
-        for _ in 0..count {
-            self.put(b" ");
-        }
+        self.at = spaces(self.out, self.at, count);
     }
 
     // A step as long as the test says yes, so many turns at most.

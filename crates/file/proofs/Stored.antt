@@ -6,8 +6,9 @@
 --     written_in                            what an accepted printing wrote lies in the output
 --     print_is                              a printing
 --     call_is                               one call
---     space_long                            after a call the file's space is as long as it was
+--     size_in, space_long                   after a call the file lies in its space, which is as long as it was
 --     begun, turned, over                   the start of a run, a turn, its end
+--     turned_in                             behind a turn the file lies in its space
 --     started                               a file is no longer than its space
 use mathlib.Core.Path.{◌≡◌, refl, sym, ap, ◌∙◌}
 use mathlib.Core.Bool.{Bool, true, false, cond, not, false≢true}
@@ -188,21 +189,35 @@ pub call_is : {s t : F.File} {k l : Lent ℕ} (indent : ℕ) (q : R.Request) (b 
     → Leaves (after indent (ask b q.nodes q.comments q.out) (held s k)) s t k l → Leaves (after indent (asked q) (held s k)) s t k l
 call_is indent q b h e = rw h e
 
--- the space stays as long as it is
+-- the file lies in its space, which stays as long as it is
 written_long : (ns : List ℕ) (b : ℕ) (out s : List ℕ) → b ≤ length s → length (W.written (accepted ns) (take b out) s) ≡ length s
 unfolding W.written
 written_long ns b out s h = simp (length-append, length-replicate, length-take) (omega arith)
 
 module _ (f : File) where
+  size_by : (b : ℕ) (s : List ℕ) (x : Bool) → leb b (length f.space) ≡ x → f.size ≤ length f.space → (cond x (file_of b s) f).size ≤ length f.space
+  size_by b s true e h = leb-true _ _ e
+  size_by b s false e h = h
+
   space_by : (ns : List ℕ) (b : ℕ) (out : List ℕ) (x : Bool) → leb b (length f.space) ≡ x
       → length (cond x (file_of b (W.written (accepted ns) (take b out) f.space)) f).space ≡ length f.space
   space_by ns b out true e = written_long ns b out f.space (leb-true _ _ e)
   space_by ns b out false e = refl
 
+  kept_size : (a : Outcome (List ℕ)) (out : List ℕ) → f.size ≤ length f.space → (kept_in a out f).size ≤ length f.space
+  unfolding kept_in
+  kept_size (refused e p n) out h = h
+  kept_size (accepted ns) out h = size_by (bytes_written ns) _ _ refl h
+
   kept_space : (a : Outcome (List ℕ)) (out : List ℕ) → length (kept_in a out f).space ≡ length f.space
   unfolding kept_in
   kept_space (refused e p n) out = refl
   kept_space (accepted ns) out = space_by ns (bytes_written ns) out _ refl
+
+pub size_in : (indent : ℕ) (q : Request) (m : Memory) → m.file.size ≤ length m.file.space → (after indent q m).file.size ≤ length m.file.space
+unfolding after settled call_of gives
+size_in indent (ask true a b c) m h = kept_size m.file _ _ h
+size_in indent (ask false a b c) m h = h
 
 pub space_long : (indent : ℕ) (q : Request) (m : Memory) → length (after indent q m).file.space ≡ length m.file.space
 unfolding after settled call_of gives
@@ -227,6 +242,10 @@ few_left (k ∷ []) h = refl
 few_left (k ∷ a ∷ []) h = refl
 few_left (k ∷ a ∷ b ∷ []) h = refl
 few_left (k ∷ a ∷ b ∷ c ∷ r) h = absurd (omega arith)
+
+pub turned_in : (indent : ℕ) (q : Request) (m next : Memory) → m.file.size ≤ length m.file.space → next ≡ after indent q m
+    → length next.file.space ≡ length m.file.space → next.file.size ≤ length next.file.space
+turned_in indent q m next h e l = rw (ap (λ (x : Memory). x.file.size) e, l) (size_in indent q m h)
 
 module _ (indent : ℕ) (r : List ℕ) (m m' : Memory) where
   turn : runs indent (requests_of r) m ≡ m'

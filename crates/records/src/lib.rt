@@ -28,6 +28,26 @@ impl Part {
     }
 }
 
+// The part that record n tells of, in a table of records of so many numbers, a width that may be known only when it runs; 0 for a number that the table does not hold.
+#[tactic(auto, using(crate::proofs::RecordLaws::parts), unfolding(crate::specs::Table::number_at))]
+pub fn part_at(table: &[u32], width: usize, n: u32) -> Part
+    requires { (C.End < width) × (width ≤ node_width) }
+    ensures { (result.start ≡ number_at width table.now n C.Start) × (result.end ≡ number_at width table.now n C.End) }
+{
+    let at = n as usize * width;
+    // a record that is there is looked up once
+    match table.get(at..at + width) {
+        Some(record) => Part {
+            start: record[column::START],
+            end: record[column::END],
+        },
+        None => Part {
+            start: table.get(at + column::START).copied().unwrap_or(0),
+            end: table.get(at + column::END).copied().unwrap_or(0),
+        },
+    }
+}
+
 // Records of WIDTH numbers each, one after another.
 #[derive(Clone, Copy)]
 pub struct Table<'a, const WIDTH: usize> {
@@ -70,22 +90,10 @@ impl<const WIDTH: usize> Table<'_, WIDTH> {
     }
 
     // The part of the text that a record tells of; 0 for a number that the table does not hold.
-    #[tactic(auto, using(crate::proofs::RecordLaws::parts))]
     pub fn part(self, n: u32) -> Part
         ensures { (result.start ≡ number_at WIDTH self.entry.numbers.now n C.Start) × (result.end ≡ number_at WIDTH self.entry.numbers.now n C.End) }
     {
-        let at = n as usize * WIDTH;
-        // a record that is there is looked up once
-        match self.numbers.get(at..at + WIDTH) {
-            Some(record) => Part {
-                start: record[column::START],
-                end: record[column::END],
-            },
-            None => Part {
-                start: self.number(n, column::START),
-                end: self.number(n, column::END),
-            },
-        }
+        part_at(self.numbers, WIDTH, n)
     }
 }
 
