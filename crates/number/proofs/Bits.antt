@@ -2,7 +2,7 @@
 --     fitted_in, fitted_out_law   a number that 32 bits hold, and one that they do not
 --     fitted_as               the same of an answer that says whether 32 bits hold it
 --     positive_.., negative_none, minus   what digits up to the bound of either sign tell
---     integer_.., hex_..      the tokens
+--     natural_.., integer_.., hex_..   the tokens
 use mathlib.Core.Path.{◌≡◌, refl, ap, ◌∙◌}
 use mathlib.Core.Bool.{Bool, true, false, cond}
 use mathlib.Core.List.{List, [], ◌∷◌}
@@ -94,6 +94,16 @@ pub integer_plus : (w : List ℕ) → 1 ≤ length w → get_or w 0 0 ≡ 43 →
 unfolding integer natural unsigned
 integer_plus [] s e = absurd (omega arith)
 integer_plus (c ∷ w) s e = rw (ne_eqb c 45 (omega arith), eq-eqb c 43 e, take_all (length (c ∷ w) - 1) w (omega arith))
+
+pub natural_plus : (w : List ℕ) → (length w ≡ 0 → ⊥) → get_or w 0 0 ≡ 43 → rest w ≡ natural w
+unfolding natural unsigned
+natural_plus [] s e = absurd (s refl)
+natural_plus (c ∷ w) s e = rw (eq-eqb c 43 e, take_all (length (c ∷ w) - 1) w (omega arith))
+
+pub natural_plain : (w : List ℕ) → (length w ≡ 0 → ⊥) → (get_or w 0 0 ≡ 43 → ⊥) → digits 10 0 w ≡ natural w
+unfolding natural unsigned
+natural_plain [] s p = absurd (s refl)
+natural_plain (c ∷ w) s p = rw (ne_eqb c 43 p)
 
 pub integer_none : (w : List ℕ) → length w < 1 → fitted (pos (digits 10 0 w)) ≡ fitted (integer w)
 unfolding integer digits

@@ -7,7 +7,7 @@
 //     the count of its tokens, and seven numbers for each: the kind, then index, line and column of the start and of the end
 #![tactic(auto)]
 
-ghost use Rattle.std.specs.Prelude.{◌≡◌, ◌+◌, ◌≤◌, length};
+ghost use Rattle.std.specs.Prelude.{◌≡◌, ◌+◌, ◌≤◌, ◌<◌, false, length};
 ghost use Rattle.lexer.specs.Limit.{limit};
 
 use lexer::error::ErrorKind;
@@ -159,14 +159,18 @@ fn same_tokens(entry: Entry) -> bool
 }
 
 // Whether the check of a text answers as the verdict says, and its tokens are rico's. There are no tokens to compare where it is no UTF-8.
-fn same_text(entry: Entry) -> bool {
+// Rico has no bound on a text, so one over it always differs, whatever its verdict.
+fn same_text(entry: Entry) -> bool
+    ensures { limit < length entry.entry.text.now → result ≡ false }
+{
     match lexer::check(entry.text) {
         Ok(()) => entry.verdict == 0 && same_tokens(entry),
         Err(refusal) => {
             entry.is_refused(refusal.kind, refusal.place)
                 && match refusal.kind {
+                    ErrorKind::NotUtf8 => true,
                     ErrorKind::NoToken => same_tokens(entry),
-                    _ => true,
+                    _ => false,
                 }
         }
     }

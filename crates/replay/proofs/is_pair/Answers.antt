@@ -5,7 +5,7 @@ use Rattle.replay.proofs.Pairs.{pair_past, pair_front}
 use Rattle.replay.proofs.is_pair.Goals as goal
 
 pub returns-in_default : goal.returns-in_default
-returns-in_default c = ⊎_elim (λ m. pair_past _ _ m) (λ m. absurd (omega (arith, m))) c.in_default.ensures.lookup.0
+returns-in_default c = ⊎_elim (λ m. pair_past _ _ (omega (arith, m))) (λ m. absurd (omega (arith, m))) c.in_default.ensures.lookup.0
 
 pub returns : goal.returns
 returns c =
