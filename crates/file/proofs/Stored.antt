@@ -3,6 +3,7 @@
 --     handed                                the memory, by the names that it was lent under
 --     read_is                               a reading
 --     store_refused, store_long, store_in   what is made the file
+--     stored                                a copy in the space, and 0 behind it
 --     written_in                            what an accepted printing wrote lies in the output
 --     print_is                              a printing
 --     call_is                               one call
@@ -20,7 +21,10 @@ use lib.ListN.{length, take, drop, get_or, replicate, length-append, length-take
 use lib.Seq.{take_all, length-take-le}
 use Rattle.std.proofs.lemmas.List.{take-append-le}
 use Rattle.lexer.specs.Outcome.{Outcome, accepted, refused}
+use Rattle.ast.specs.Clear.{Cleared}
 use Rattle.ast.specs.Laid.{laid_with}
+use Rattle.ast.proofs.ClearLaws.{cleared_by}
+use Rattle.ast.proofs.LaidLaws.{laid_is}
 use Rattle.ast.specs.Records.{comment_width, node_width, node_rows, notes, room}
 use Rattle.parser.specs.Read.{Answer}
 use Rattle.ast.specs.Ast.{Definition}
@@ -101,6 +105,15 @@ module _ (p : Printed) (out : List ℕ) (f : File) where
     pub store_long : length f.space < q.bytes → f ≡ kept_in (said p) out f
     unfolding kept_in said_by
     store_long l = rw (h, lt-leb q.bytes (length f.space) l)
+
+    -- the print's bytes copied into the space, and 0 behind them
+    pub stored : (copied space' : List ℕ) → q.bytes ≤ length f.space → q.bytes ≤ length out → copied ≡ take q.bytes out ++ drop (length (take q.bytes out)) f.space
+        → Cleared (λ x. x ≡ 0) q.bytes copied space' → space' ≡ laid_with 0 (take q.bytes out) f.space
+    stored copied space' l k e c =
+        let t : length (take q.bytes out) ≡ q.bytes = length-take-le q.bytes out k in
+        let u : q.bytes ≡ min (length (take q.bytes out)) (length f.space) = omega (arith, t, l) in
+        let d : copied ≡ take q.bytes out ++ drop q.bytes f.space = rw t at e in
+        rw d at (cleared_by 0 q.bytes copied space' c) ∙ laid_is 0 (take q.bytes out) f.space q.bytes u (take q.bytes out) (sym (take_all q.bytes (take q.bytes out) (omega (arith, t))))
 
     pub store_in : (space' : List ℕ) → q.bytes ≤ length f.space → q.bytes ≤ length out → space' ≡ laid_with 0 (take q.bytes out) f.space
         → file_of q.bytes space' ≡ kept_in (said p) out f
