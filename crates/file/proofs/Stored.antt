@@ -96,6 +96,15 @@ read_is indent file space ns cs out ns' cs' a b c x y r k l e =
 
 -- ---- store
 
+-- a print's bytes copied into a space, and 0 behind them
+pub stored : (n : ℕ) (out space copied space' : List ℕ) → n ≤ length space → n ≤ length out → copied ≡ take n out ++ drop (length (take n out)) space
+    → Cleared (λ x. x ≡ 0) n copied space' → space' ≡ laid_with 0 (take n out) space
+stored n out space copied space' l k e c =
+    let t : length (take n out) ≡ n = length-take-le n out k in
+    let u : n ≡ min (length (take n out)) (length space) = omega (arith, t, l) in
+    let d : copied ≡ take n out ++ drop n space = rw t at e in
+    rw d at (cleared_by 0 n copied space' c) ∙ laid_is 0 (take n out) space n u (take n out) (sym (take_all n (take n out) (omega (arith, t))))
+
 module _ (p : Printed) (out : List ℕ) (f : File) where
   pub store_refused : (r : Refusal) → p ≡ Err r → f ≡ kept_in (said p) out f
   unfolding kept_in said_by
@@ -105,15 +114,6 @@ module _ (p : Printed) (out : List ℕ) (f : File) where
     pub store_long : length f.space < q.bytes → f ≡ kept_in (said p) out f
     unfolding kept_in said_by
     store_long l = rw (h, lt-leb q.bytes (length f.space) l)
-
-    -- the print's bytes copied into the space, and 0 behind them
-    pub stored : (copied space' : List ℕ) → q.bytes ≤ length f.space → q.bytes ≤ length out → copied ≡ take q.bytes out ++ drop (length (take q.bytes out)) f.space
-        → Cleared (λ x. x ≡ 0) q.bytes copied space' → space' ≡ laid_with 0 (take q.bytes out) f.space
-    stored copied space' l k e c =
-        let t : length (take q.bytes out) ≡ q.bytes = length-take-le q.bytes out k in
-        let u : q.bytes ≡ min (length (take q.bytes out)) (length f.space) = omega (arith, t, l) in
-        let d : copied ≡ take q.bytes out ++ drop q.bytes f.space = rw t at e in
-        rw d at (cleared_by 0 q.bytes copied space' c) ∙ laid_is 0 (take q.bytes out) f.space q.bytes u (take q.bytes out) (sym (take_all q.bytes (take q.bytes out) (omega (arith, t))))
 
     pub store_in : (space' : List ℕ) → q.bytes ≤ length f.space → q.bytes ≤ length out → space' ≡ laid_with 0 (take q.bytes out) f.space
         → file_of q.bytes space' ≡ kept_in (said p) out f
