@@ -44,10 +44,14 @@ pub fn clear<T: Copy + Default>(list: &mut [T], from: usize)
 }
 
 // Values at the front of a list, as many as it holds, and `rest` behind them.
+// One by one: by `copy_from_slice`, or a loop over the values alone, the static library would need memcpy and memmove from outside.
 pub fn lay<T: Copy>(list: &mut [T], values: &[T], rest: T)
     ensures { list.new ≡ laid_with rest values.now list.old }
 {
-    let end = values.len().min(list.len());
-    list[..end].copy_from_slice(&values[..end]);
-    fill(list, end, rest);
+    for (i, slot) in list.iter_mut().enumerate() {
+        *slot = match values.get(i) {
+            Some(&value) => value,
+            None => rest,
+        };
+    }
 }

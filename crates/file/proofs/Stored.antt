@@ -3,6 +3,7 @@
 --     handed                                the memory, by the names that it was lent under
 --     read_is                               a reading
 --     store_refused, store_long, store_in   what is made the file
+--     stored                                a copy in the space, and 0 behind it
 --     written_in                            what an accepted printing wrote lies in the output
 --     print_is                              a printing
 --     call_is                               one call
@@ -21,7 +22,10 @@ use lib.ListN.{length, take, drop, get_or, replicate, length-append, length-take
 use lib.Seq.{take_all, length-take-le}
 use Rattle.std.proofs.lemmas.List.{take-append-le}
 use Rattle.lexer.specs.Outcome.{Outcome, accepted, refused}
+use Rattle.ast.specs.Clear.{Cleared}
 use Rattle.ast.specs.Laid.{laid_with}
+use Rattle.ast.proofs.ClearLaws.{cleared_by}
+use Rattle.ast.proofs.LaidLaws.{laid_is}
 use Rattle.ast.specs.Records.{comment_width, node_width, node_rows, notes, room}
 use Rattle.parser.specs.Read.{Answer}
 use Rattle.ast.specs.Ast.{Definition}
@@ -92,6 +96,15 @@ read_is indent file space ns cs out ns' cs' a b c x y r k l e =
     (rw (l, drop_min b cs) (ap (λ (w : Reading). w.comments ++ drop b cs) q))
 
 -- ---- store
+
+-- a print's bytes copied into a space, and 0 behind them
+pub stored : (n : ℕ) (out space copied space' : List ℕ) → n ≤ length space → n ≤ length out → copied ≡ take n out ++ drop (length (take n out)) space
+    → Cleared (λ x. x ≡ 0) n copied space' → space' ≡ laid_with 0 (take n out) space
+stored n out space copied space' l k e c =
+    let t : length (take n out) ≡ n = length-take-le n out k in
+    let u : n ≡ min (length (take n out)) (length space) = omega (arith, t, l) in
+    let d : copied ≡ take n out ++ drop n space = rw t at e in
+    rw d at (cleared_by 0 n copied space' c) ∙ laid_is 0 (take n out) space n u (take n out) (sym (take_all n (take n out) (omega (arith, t))))
 
 module _ (p : Printed) (out : List ℕ) (f : File) where
   pub store_refused : (r : Refusal) → p ≡ Err r → f ≡ kept_in (said p) out f

@@ -76,7 +76,8 @@ impl File<'_> {
         if self.space.len() < bytes {
             return;
         }
-        ast::lay(self.space, &lent.out[..bytes], 0);
+        cursor::copy(self.space, &lent.out[..bytes]);
+        ast::clear(self.space, bytes);
         self.size = bytes;
     }
 
