@@ -7,7 +7,8 @@
 
 ghost use Rattle.std.specs.Prelude.{◌≤◌};
 
-use replay::{Findings, SPACE, Tables};
+use reader::Lent;
+use replay::{COMMENTS, Findings, NODES, SPACE};
 use std::io::Stdin;
 use std::{fmt, io};
 use writer::{Print, Printed};
@@ -57,22 +58,6 @@ impl Text<'_> {
     }
 }
 
-// What a call is lent.
-#[derive(Clone, Copy, PartialEq, Eq)]
-struct Lent {
-    tables: Tables,
-    out: [u8; SPACE],
-}
-
-impl Lent {
-    fn new() -> Lent {
-        Lent {
-            tables: Tables::new(),
-            out: [7; SPACE],
-        }
-    }
-}
-
 // How much of both tables and of the output a printing of a text takes.
 #[derive(Clone, Copy)]
 struct Needs {
@@ -83,13 +68,15 @@ struct Needs {
 
 // What a printing of a text takes; if it is refused, some numbers of each.
 fn needs_of(text: Text) -> Needs {
-    let mut lent = Lent::new();
+    let mut nodes: [u32; NODES] = [7; NODES];
+    let mut comments: [u32; COMMENTS] = [7; COMMENTS];
+    let mut out: [u8; SPACE] = [7; SPACE];
     match printer::print(
         text.bytes,
         text.indent(),
-        &mut lent.tables.nodes,
-        &mut lent.tables.comments,
-        &mut lent.out,
+        &mut nodes,
+        &mut comments,
+        &mut out,
     ) {
         Ok(
             Print {
@@ -198,23 +185,29 @@ impl Steps {
     }
 
     // After one call of the reader or the printer.
-    fn called(self, space: &mut [u8], indent: u32, request: [u32; 4], lent: &mut Lent) -> Steps {
+    fn called(
+        self,
+        space: &mut [u8],
+        indent: u32,
+        request: [u32; 4],
+        lent: &mut Lent<u8>,
+    ) -> Steps {
         let [kind, nodes, comments, out] = request;
         let end = self.length.min(space.len());
         let text = &space[..end];
-        let nodes = lend(&mut lent.tables.nodes, nodes);
-        let comments = lend(&mut lent.tables.comments, comments);
+        let nodes = lend(lent.nodes, nodes);
+        let comments = lend(lent.comments, comments);
         if kind == READING {
             let _ = reader::read(text, nodes, comments);
             return self;
         }
-        let printed = printer::print(text, indent, nodes, comments, lend(&mut lent.out, out));
-        self.printed(space, &lent.out, printed)
+        let printed = printer::print(text, indent, nodes, comments, lend(lent.out, out));
+        self.printed(space, lent.out, printed)
     }
 }
 
 // The calls of a list of requests, one by one.
-fn make_calls(space: &mut [u8], text: Text, requests: &[[u32; 4]], lent: &mut Lent) -> Steps {
+fn make_calls(space: &mut [u8], text: Text, requests: &[[u32; 4]], lent: &mut Lent<u8>) -> Steps {
     let mut steps = Steps::new(text.bytes.len());
     for &request in requests {
         steps = steps.called(space, text.indent(), request, lent);
@@ -228,16 +221,16 @@ fn run(
     length: usize,
     indent: u32,
     requests: &[[u32; 4]],
-    lent: &mut Lent,
+    lent: &mut Lent<u8>,
 ) -> usize {
     file::run(
         space,
         length,
         indent,
         requests.as_flattened(),
-        &mut lent.tables.nodes,
-        &mut lent.tables.comments,
-        &mut lent.out,
+        lent.nodes,
+        lent.comments,
+        lent.out,
     )
 }
 
@@ -308,18 +301,42 @@ fn stays(
     indent: u32,
     requests: &[[u32; 4]],
 ) -> bool {
-    let again = run(space, length, indent, requests, &mut Lent::new());
+    let mut nodes: [u32; NODES] = [7; NODES];
+    let mut comments: [u32; COMMENTS] = [7; COMMENTS];
+    let mut out: [u8; SPACE] = [7; SPACE];
+    let mut lent = Lent {
+        nodes: &mut nodes,
+        comments: &mut comments,
+        out: &mut out,
+    };
+    let again = run(space, length, indent, requests, &mut lent);
     again == length && &*space == other
 }
 
 // Makes the calls of a text in two spaces, by `file::run` and one by one, and compares.
 fn compare_in(space: &mut [u8], spare: &mut [u8], text: Text, requests: &[[u32; 4]]) -> Steps {
-    let mut lent = Lent::new();
+    let mut nodes: [u32; NODES] = [7; NODES];
+    let mut comments: [u32; COMMENTS] = [7; COMMENTS];
+    let mut out: [u8; SPACE] = [7; SPACE];
+    let mut lent = Lent {
+        nodes: &mut nodes,
+        comments: &mut comments,
+        out: &mut out,
+    };
     let length = run(space, text.handed(), text.indent(), requests, &mut lent);
-    let mut spare_lent = Lent::new();
+    let mut spare_nodes: [u32; NODES] = [7; NODES];
+    let mut spare_comments: [u32; COMMENTS] = [7; COMMENTS];
+    let mut spare_out: [u8; SPACE] = [7; SPACE];
+    let mut spare_lent = Lent {
+        nodes: &mut spare_nodes,
+        comments: &mut spare_comments,
+        out: &mut spare_out,
+    };
     let steps = make_calls(spare, text, requests, &mut spare_lent);
     steps
-        .compared(lent == spare_lent)
+        .compared(nodes.as_slice() == spare_nodes.as_slice())
+        .compared(comments.as_slice() == spare_comments.as_slice())
+        .compared(out.as_slice() == spare_out.as_slice())
         .compared(length == steps.length)
         .compared(&*space == &*spare)
 }

@@ -9,7 +9,7 @@ ghost use Rattle.std.specs.Prelude.{◌<◌, ◌≤◌};
 
 use ast::{COMMENT_WIDTH, NODE_WIDTH};
 use parser::{Answer, Counts};
-use replay::{Listed, SPACE, Tables, Tally};
+use replay::{COMMENTS, Listed, NODES, SPACE, Tally};
 use std::io;
 use std::io::Stdin;
 
@@ -52,29 +52,22 @@ impl<const WIDTH: usize> Records<'_, WIDTH> {
     }
 }
 
-// What the reader answers for a text, and what it leaves in the tables.
+// What the reader answers for a text, and what it leaves in the tables. They are borrowed: made or moved as one value, as `replay::Tables` is, they would be copied for each text.
 #[derive(Clone, Copy)]
-struct Reading {
+struct Reading<'a> {
     answer: Answer,
-    tables: Tables,
+    nodes: &'a [u32],
+    comments: &'a [u32],
 }
 
-impl Reading {
-    fn of(text: &[u8]) -> Reading {
-        let mut tables = Tables::new();
-        let answer = reader::read(text, &mut tables.nodes, &mut tables.comments);
-        Reading { answer, tables }
-    }
-
+impl Reading<'_> {
     fn nodes(&self) -> Records<'_, NODE_WIDTH> {
-        Records {
-            table: &self.tables.nodes,
-        }
+        Records { table: self.nodes }
     }
 
     fn comments(&self) -> Records<'_, COMMENT_WIDTH> {
         Records {
-            table: &self.tables.comments,
+            table: self.comments,
         }
     }
 
@@ -100,7 +93,7 @@ impl Reading {
         let listed = replay::read_answer(input)?;
         let same = match listed {
             Ok(counts) => self.has_records(input, counts, paired)?,
-            Err(_) => self.tables.zero_from(0, 0),
+            Err(_) => replay::zero_from(self.nodes, 0) && replay::zero_from(self.comments, 0),
         };
         Ok(same && self.has(listed))
     }
@@ -115,13 +108,16 @@ fn spaced_byte(text: &[u8], at: usize) -> u8 {
     }
 }
 
-// Whether a text has no CR LF, and these are its tables.
-fn has_tables(text: &[u8], tables: &Tables) -> bool {
-    !replay::has_pair(text) && Reading::of(text).tables == *tables
+// Whether a text has no CR LF, and its tables are those of this reading.
+fn has_tables(text: &[u8], reading: Reading) -> bool {
+    let mut nodes: [u32; NODES] = [7; NODES];
+    let mut comments: [u32; COMMENTS] = [7; COMMENTS];
+    let _ = reader::read(text, &mut nodes, &mut comments);
+    !replay::has_pair(text) && nodes.as_slice() == reading.nodes && comments.as_slice() == reading.comments
 }
 
-// Whether these are the tables of the text with those spaces too.
-fn same_spaced(text: &[u8], tables: &Tables) -> bool {
+// Whether the text with those spaces has the tables of this reading too.
+fn same_spaced(text: &[u8], reading: Reading) -> bool {
     let mut space: [u8; SPACE] = [0; SPACE];
     let Some(spaced) = space.get_mut(..text.len()) else {
         return false;
@@ -129,14 +125,21 @@ fn same_spaced(text: &[u8], tables: &Tables) -> bool {
     for (at, byte) in spaced.iter_mut().enumerate() {
         *byte = spaced_byte(text, at);
     }
-    has_tables(spaced, tables)
+    has_tables(spaced, reading)
 }
 
 // Reads a text, and tells whether all is as the list has it, and the lines as they must be. Whether it has CR LF is looked up once, and handed down to each number.
 fn same_text(input: &mut Stdin, text: &[u8], paired: bool) -> io::Result<bool> {
-    let reading = Reading::of(text);
+    let mut nodes: [u32; NODES] = [7; NODES];
+    let mut comments: [u32; COMMENTS] = [7; COMMENTS];
+    let answer = reader::read(text, &mut nodes, &mut comments);
+    let reading = Reading {
+        answer,
+        nodes: &nodes,
+        comments: &comments,
+    };
     let listed = reading.is_listed(input, paired)?;
-    Ok(listed && (!paired || same_spaced(text, &reading.tables)))
+    Ok(listed && (!paired || same_spaced(text, reading)))
 }
 
 // Compares a text.

@@ -5,33 +5,29 @@
 #![tactic(auto)]
 
 use lexer::error::{ErrorKind, Refusal};
-use replay::{Findings, SPACE, Tables};
+use replay::{COMMENTS, Findings, NODES, SPACE};
 use std::io::Stdin;
 use std::{fmt, io};
-use writer::Print;
 
 // Whether all bytes are 0.
 fn is_zero(bytes: &[u8]) -> bool {
     bytes.iter().all(|&byte| byte == 0)
 }
 
+// The tables are arrays of their own and no `replay::Tables`, which would be copied where it is made.
+
 // Whether printing into this output gives this print, and what lies past the answer is 0.
 fn is_printed(text: &[u8], indent: u32, out: &mut [u8], print: &[u8]) -> bool {
-    let mut tables = Tables::new();
-    let Ok(
-        Print {
-            nodes,
-            comments,
-            bytes,
-        },
-    ) = printer::print(text, indent, &mut tables.nodes, &mut tables.comments, out)
-    else {
+    let mut nodes: [u32; NODES] = [7; NODES];
+    let mut comments: [u32; COMMENTS] = [7; COMMENTS];
+    let Ok(printed) = printer::print(text, indent, &mut nodes, &mut comments, out) else {
         return false;
     };
-    let nodes_end = nodes as usize * ast::NODE_WIDTH;
-    let comments_end = comments as usize * ast::COMMENT_WIDTH;
-    bytes == print.len()
-        && tables.zero_from(nodes_end, comments_end)
+    let nodes_end = printed.nodes as usize * ast::NODE_WIDTH;
+    let comments_end = printed.comments as usize * ast::COMMENT_WIDTH;
+    printed.bytes == print.len()
+        && replay::zero_from(&nodes, nodes_end)
+        && replay::zero_from(&comments, comments_end)
         && out.strip_prefix(print).is_some_and(is_zero)
 }
 
@@ -46,10 +42,16 @@ fn same_print(text: &[u8], indent: u32, print: &[u8]) -> bool {
 
 // Whether printing at 2 into this output is so refused, and all that was lent is 0.
 fn is_refused(text: &[u8], out: &mut [u8], numbers: [u32; 3]) -> bool {
-    let mut tables = Tables::new();
-    match printer::print(text, 2, &mut tables.nodes, &mut tables.comments, out) {
+    let mut nodes: [u32; NODES] = [7; NODES];
+    let mut comments: [u32; COMMENTS] = [7; COMMENTS];
+    match printer::print(text, 2, &mut nodes, &mut comments, out) {
         Ok(_) => false,
-        Err(refusal) => { refusal.numbers() == numbers && tables.zero_from(0, 0) && is_zero(out) }
+        Err(refusal) => {
+            refusal.numbers() == numbers
+                && replay::zero_from(&nodes, 0)
+                && replay::zero_from(&comments, 0)
+                && is_zero(out)
+        }
     }
 }
 

@@ -10,7 +10,7 @@ pub returns-then-text-at : goal.returns-then-text-at
 returns-then-text-at c = sym (reach_end c.requires c.if-text-at.true)
 
 pub returns-then-class_at-lt-E : goal.returns-then-class_at-lt-E
-returns-then-class_at-lt-E c = ap (λ n. Some (T.DoubleLiteral, n)) c.run.ensures ∙ sym (exponent_digit_law c.requires c.if-text-at.false (rw c.class_at.ensures at c.if-class_at-lt-E.true))
+returns-then-class_at-lt-E c = ap (λ n. Some (T.DoubleLiteral, n)) c.run_above.ensures ∙ sym (exponent_digit_law c.requires c.if-text-at.false (rw c.class_at.ensures at c.if-class_at-lt-E.true))
 
 pub returns : goal.returns
 returns c = sym (exponent_none c.requires c.if-text-at.false (rw c.class_at.ensures at c.if-class_at-lt-E.false))
