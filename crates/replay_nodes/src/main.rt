@@ -113,7 +113,9 @@ fn has_tables(text: &[u8], reading: Reading) -> bool {
     let mut nodes: [u32; NODES] = [7; NODES];
     let mut comments: [u32; COMMENTS] = [7; COMMENTS];
     let _ = reader::read(text, &mut nodes, &mut comments);
-    !replay::has_pair(text) && nodes.as_slice() == reading.nodes && comments.as_slice() == reading.comments
+    !replay::has_pair(text)
+        && nodes.as_slice() == reading.nodes
+        && comments.as_slice() == reading.comments
 }
 
 // Whether the text with those spaces has the tables of this reading too.
