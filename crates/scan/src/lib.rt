@@ -117,7 +117,8 @@ fn run(text: &[u8], at: usize, from: u8, to: u8) -> usize
     })
 }
 
-// The same of all classes from `from` on. By its own test: with the two of `run`, a long number took twice the time.
+// The same of all classes from `from` on. By its own test, and called: with the two of `run`, or inlined where it starts at a known place, a long number took twice the time.
+#[inline(never)]
 fn run_above(text: &[u8], at: usize, from: u8) -> usize
     requires { at ≤ length text.now }
     ensures { result ≡ at + before from 60 (drop at text.now) }

@@ -74,14 +74,10 @@ fn pass_sequences(text: &[u8], from: usize, stop: usize) -> Result<usize, usize>
     Ok(at)
 }
 
-// The offset of the first ill-formed sequence. A text, or else a part of it, without a byte from 128 on is passed whole.
+// The offset of the first ill-formed sequence. A part of the text without a byte from 128 on is passed whole.
 pub fn ill_formed(text: &[u8]) -> Option<usize>
     ensures { result ≡ ill_formed text.now }
 {
-    let is_plain = text.is_ascii();
-    if is_plain {
-        return None;
-    }
     let mut at: usize = 0;
     // a part ends behind its last sequence, so `chunks` would cut it
     while at < text.len() {

@@ -4,11 +4,8 @@ use Prim.Native.Nat.{◌+◌}
 use native.Mathlib.Omega.{arith}
 use lib.ListN.{drop_of_length-le}
 use Rattle.utf8.specs.Utf8.{ill_from, ill_formed}
-use Rattle.utf8.proofs.Utf8Laws.{ascii_part, well_plain}
+use Rattle.utf8.proofs.Utf8Laws.{ascii_part}
 use Rattle.utf8.proofs.ill_formed.Goals as goal
-
-pub returns-then-is_plain : goal.returns-then-is_plain
-returns-then-is_plain c = sym (well_plain c.args.text.now c.if-is_plain.ensures.cases)
 
 pub loop-at-init : goal.loop-at-init
 unfolding ill_formed
