@@ -6,7 +6,7 @@ use Prim.Native.Nat.{ℕ, min, suc, ◌+◌, ◌*◌, ◌-◌, ◌/◌, ◌≤�
 use native.Mathlib.Omega.{arith}
 use borrow.Author.Tests.{le-leb, lt-leb, leb-true, leb-false, ltb-true, ltb-false}
 use lib.Dec.{leb, ltb}
-use lib.ListN.{length, take, drop, set, get_or, length-append}
+use lib.ListN.{length, take, drop, set, get_or, length-append, length-drop}
 use lib.Seq.{sets-eq, set_at, drop-cons, length-take-le}
 use Rattle.lexer.specs.declared.location.LOC.{LOC}
 use Rattle.ast.specs.Column.{Past}
@@ -42,6 +42,17 @@ pub row_on : (at k p f : ℕ) (l : Range) (t : List ℕ) → at + comment_width 
     set (set (set starts (at + 6) e.index) (at + 7) e.line) (at + 8) e.column ≡ put_row at (row k p f (unpacked_loc l)) t
 unfolding put_row row comment_width
 row_on at k p f l t h = stores at k p f _ _ _ _ _ _ t h
+
+pub row_kept : (at : ℕ) (r t : List ℕ) → at + length r ≤ length t → length (put_row at r t) ≡ length t
+unfolding put_row
+row_kept at r t h =
+    omega (
+      arith,
+      length-append (take at t) (r ++ drop (at + length r) t),
+      length-append r (drop (at + length r) t),
+      length-take-le at t (omega (arith, h)),
+      length-drop (at + length r) t,
+    )
 
 -- a number behind a row
 behind_row : (at : ℕ) (r t : List ℕ) (e : ℕ) → at + length r < length t → set (put_row at r t) (at + length r) e ≡ put_row at (r ++ e ∷ []) t
