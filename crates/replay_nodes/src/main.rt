@@ -9,7 +9,7 @@ ghost use Rattle.std.specs.Prelude.{◌<◌, ◌≤◌};
 
 use ast::{COMMENT_WIDTH, NODE_WIDTH};
 use parser::{Answer, Counts};
-use replay::{COMMENTS, Listed, NODES, SPACE, Tally};
+use replay::{COMMENTS, Listed, NODES, SPACE, Tables, Tally};
 use std::io;
 use std::io::Stdin;
 
@@ -52,7 +52,7 @@ impl<const WIDTH: usize> Records<'_, WIDTH> {
     }
 }
 
-// What the reader answers for a text, and what it leaves in the tables. They are borrowed: made or moved as one value, as `replay::Tables` is, they would be copied for each text.
+// What the reader answers for a text, and what it leaves in the tables. They are borrowed from arrays: a `replay::Tables`, as for the few texts below, would be copied where it is made, for each text.
 #[derive(Clone, Copy)]
 struct Reading<'a> {
     answer: Answer,
@@ -110,12 +110,11 @@ fn spaced_byte(text: &[u8], at: usize) -> u8 {
 
 // Whether a text has no CR LF, and its tables are those of this reading.
 fn has_tables(text: &[u8], reading: Reading) -> bool {
-    let mut nodes: [u32; NODES] = [7; NODES];
-    let mut comments: [u32; COMMENTS] = [7; COMMENTS];
-    let _ = reader::read(text, &mut nodes, &mut comments);
+    let mut tables = Tables::new();
+    let _ = reader::read(text, &mut tables.nodes, &mut tables.comments);
     !replay::has_pair(text)
-        && nodes.as_slice() == reading.nodes
-        && comments.as_slice() == reading.comments
+        && tables.nodes.as_slice() == reading.nodes
+        && tables.comments.as_slice() == reading.comments
 }
 
 // Whether the text with those spaces has the tables of this reading too.
